@@ -1,0 +1,11 @@
+pub mod Parts
+pub mod PartLaws
+pub mod Number
+pub mod Encode
+pub mod Put
+pub mod PutLaws
+pub mod Told
+pub mod Groups
+pub mod Encoded
+pub mod Stands
+pub mod Exact

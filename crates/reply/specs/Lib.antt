@@ -1,0 +1,9 @@
+pub mod Reply
+pub mod Result
+pub mod ResultLaws
+pub mod Tools
+pub mod Tests
+pub mod AllAny
+pub mod Counts
+pub mod First
+pub mod Pick
