@@ -1,0 +1,33 @@
+// A case's line: words, numbers and bytes, on standard output.
+use libc::STDOUT_FILENO;
+use reply::Reply;
+
+pub fn text(words: &[u8]) {
+    io::write_all(STDOUT_FILENO, words);
+}
+
+pub fn number(n: u64) {
+    io::print_decimal(STDOUT_FILENO, n);
+}
+
+// Each byte after a space, in hexadecimal.
+pub fn bytes(s: &[u8]) {
+    let mut i = 0;
+    while i < s.len() {
+        text(b" ");
+        let b = s[i];
+        io::print_hex(STDOUT_FILENO, wide(b), 2);
+        i += 1;
+    }
+}
+
+pub fn refusal(reply: Reply, place: usize) {
+    text(b"refused ");
+    number(reply::number(reply) as u64);
+    text(b" at ");
+    number(place as u64);
+}
+
+fn wide(b: u8) -> u64 {
+    b as u64
+}
