@@ -1,0 +1,4 @@
+mod Ranges
+mod InTurn
+mod Loop
+mod Records

@@ -1,0 +1,12 @@
+pub mod Lists
+pub mod ListLaws
+pub mod Chains
+pub mod ChainLaws
+pub mod Frame
+pub mod Pairs
+pub mod Net
+pub mod Read
+pub mod Write
+pub mod Valid
+pub mod Opens
+pub mod Told
