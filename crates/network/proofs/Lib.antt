@@ -2,3 +2,5 @@ mod Ranges
 mod InTurn
 mod Loop
 mod Records
+mod PairRows
+mod Ends

@@ -20,11 +20,11 @@ pub record SoFar {A : Type 0} (one : List A → ℕ → Result (Part A)) (none :
   pub stands : stored ≡ fillTo room none read
 
 module _ {A : Type 0} (one : List A → ℕ → Result (Part A)) (none : A) (room from : ℕ) where
-  pub start : (stored : List A) → stored ≡ replicate room none → SoFar one none room from 0 from stored
+  abbrev pub start : (stored : List A) → stored ≡ replicate room none → SoFar one none room from 0 from stored
   start stored e = record { read = []; size = refl; gives = many-zero one from; stands = e ∙ sym (fill-none room none) }
 
   module _ {i at : ℕ} {stored : List A} (s : SoFar one none room from i at stored) where
-    pub step : (x : A) (next : ℕ) → i < room → one (s .read) at ≡ part x next → SoFar one none room from (i + 1) next (set stored i x)
+    abbrev pub step : (x : A) (next : ℕ) → i < room → one (s .read) at ≡ part x next → SoFar one none room from (i + 1) next (set stored i x)
     step x next h e = record {
       read = s .read ++ (x ∷ []);
       size = length-append (s .read) (x ∷ []) ∙ omega (arith, s .size);

@@ -4,6 +4,7 @@ pub mod Chains
 pub mod ChainLaws
 pub mod Frame
 pub mod Pairs
+pub mod PairLaws
 pub mod Net
 pub mod Read
 pub mod Write

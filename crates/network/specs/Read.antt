@@ -48,15 +48,22 @@ onePair file n before at =
 abbrev pub mostCapacity : ℕ → ℕ
 mostCapacity kind = cond (eqb kind 1) 1 8
 
--- "each: kind (0 queue, 1 board), writer, reader, capacity"
-unfoldable pub oneChannel : List ℕ → ℕ → List Pair → List Channel → ℕ → Result (Part Channel)
-oneChannel file n pairs before at =
+abbrev pub channelPart : (ℕ → ℕ → Bool) → ℕ → ℕ → ℕ → ℕ → ℕ → ℕ → Result (Part Channel)
+channelPart ends at kind writer reader capacity next =
+    andThen (require (ends writer reader) BadChannel at) λ ok.
+    part (record { kind = kind; writer = writer; reader = reader; capacity = capacity }) next
+
+-- "each: kind (0 queue, 1 board), writer, reader, capacity", with ends that pass a test
+unfoldable pub channelWith : List ℕ → (ℕ → ℕ → Bool) → ℕ → Result (Part Channel)
+channelWith file ends at =
     reading (ranged file 0 1 at) λ kind at₁.
     reading (numberAt file at₁) λ writer at₂.
     reading (numberAt file at₂) λ reader at₃.
     reading (ranged file 1 (mostCapacity kind) at₃) λ capacity next.
-    andThen (require (goodEnds n pairs writer reader) BadChannel at) λ ok.
-    part (record { kind = kind; writer = writer; reader = reader; capacity = capacity }) next
+    channelPart ends at kind writer reader capacity next
+
+unfoldable pub oneChannel : List ℕ → ℕ → List Pair → List Channel → ℕ → Result (Part Channel)
+oneChannel file n pairs before at = channelWith file (goodEnds n pairs) at
 
 -- the table of actions, column by column: what the operands of action k of n of process p may be
 abbrev pub isVar : ℕ → Bool

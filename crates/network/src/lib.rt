@@ -1,5 +1,7 @@
 // The network file: a reader and a writer by one rule.
+mod channels;
 mod numbers;
+mod pairs;
 mod processes;
 
 use reply::Answer;

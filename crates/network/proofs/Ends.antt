@@ -1,0 +1,50 @@
+-- A channel's ends: judged by rows of marks as by the pairs themselves.
+use Prim.Native.Nat.{ℕ, _≤_, _<_}
+use mathlib.Core.Path.{_≡_, refl, sym, ap, ap₂, _∙_}
+use mathlib.Core.Bool.{Bool, true, false, _&&_, _||_}
+use mathlib.Core.List.{List}
+use native.Mathlib.Omega.{arith}
+use lib.ListN.{getD}
+use lib.Dec.{eqb}
+use borrow.Author.Tests.{eq-eqb, ne-eqb}
+use mathlib.Core.Logic.{_≢_}
+use Rattle.reply.specs.Tests.{split}
+use Rattle.marks.specs.Row.{marked, noMarks}
+use Rattle.marks.specs.declared.Row.{Row}
+use Rattle.network.specs.Pairs.{isPair, apart, goodEnds}
+use Rattle.network.specs.PairLaws.{apart-true}
+use Rattle.network.specs.Read.{mostCapacity}
+use Rattle.network.specs.Told.{pairRows, endsBy}
+use Rattle.network.specs.declared.Pair.{Pair}
+use Rattle.network.proofs.PairRows.{row-has}
+
+pub ends-place : (n w r : ℕ) (s : Bool) → s ≡ apart n w r → s ≡ true → n ≤ 12 → (w < 12) × (r < 12)
+ends-place n w r s told e small = omega (arith, apart-true n w r (sym told ∙ e))
+
+module _ (n : ℕ) (rows : List Row) (w r : ℕ) (s : Bool) (told : s ≡ apart n w r) where
+  module _ (t : Bool) (has : t ≡ marked (getD rows w noMarks) r) (e : s ≡ true) where
+    pub ends-there : t ≡ true → true ≡ endsBy n rows w r
+    unfolding endsBy
+    ends-there f = rw (sym told ∙ e, sym has ∙ f)
+
+    pub ends-back : (u : Bool) → u ≡ marked (getD rows r noMarks) w → t ≡ false → u ≡ endsBy n rows w r
+    unfolding endsBy
+    ends-back u back f = rw (sym told ∙ e, sym has ∙ f) back
+
+  pub ends-same : s ≡ false → false ≡ endsBy n rows w r
+  unfolding endsBy
+  ends-same e = rw (sym told ∙ e)
+
+pub ends-rows : (n : ℕ) (pairs : List Pair) (w r : ℕ) → n ≤ 12 → endsBy n (pairRows pairs) w r ≡ goodEnds n pairs w r
+unfolding endsBy goodEnds
+ends-rows n pairs w r small = split (apart n w r)
+    (λ e.
+    let (h, l, d) = apart-true n w r e in
+    rw (e, row-has pairs w r (omega arith) (omega arith), row-has pairs r w (omega arith) (omega arith)))
+    (λ e. rw e)
+
+pub most-board : (kind : ℕ) → kind ≡ 1 → 1 ≡ mostCapacity kind
+most-board kind e = rw (eq-eqb kind 1 e)
+
+pub most-queue : (kind : ℕ) → kind ≢ 1 → 8 ≡ mostCapacity kind
+most-queue kind e = rw (ne-eqb kind 1 e)
