@@ -4,3 +4,7 @@ mod Loop
 mod Records
 mod PairRows
 mod Ends
+mod Tails
+mod Multiples
+mod FrameLoops
+mod RowSteps

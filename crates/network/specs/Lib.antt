@@ -2,7 +2,10 @@ pub mod Lists
 pub mod ListLaws
 pub mod Chains
 pub mod ChainLaws
+pub mod ChainsSame
+pub mod RowChains
 pub mod Frame
+pub mod FrameLaws
 pub mod Pairs
 pub mod PairLaws
 pub mod Net

@@ -117,25 +117,37 @@ afterChannels file n processes pairs channels at =
     andThen (require (leb (length file) end) BytesLeft end) λ ok.
     done (record { processes = processes; pairs = pairs; channels = channels; programs = programs })
 
-unfoldable pub afterPairs : List ℕ → ℕ → List Process → List Pair → ℕ → Result Net
-afterPairs file n processes pairs at =
-    reading (ranged file 0 16 at) λ count at₁.
-    reading (many count (oneChannel file n pairs) at₁) λ channels next.
+unfoldable pub afterChannelCount : List ℕ → ℕ → List Process → List Pair → ℕ → ℕ → Result Net
+afterChannelCount file n processes pairs count at =
+    reading (many count (oneChannel file n pairs) at) λ channels next.
     afterChannels file n processes pairs channels next
 
-unfoldable pub afterProcesses : List ℕ → ℕ → List Process → ℕ → Result Net
-afterProcesses file n processes at =
-    reading (ranged file 0 66 at) λ count at₁.
-    reading (many count (onePair file n) at₁) λ pairs next.
+unfoldable pub afterPairs : List ℕ → ℕ → List Process → List Pair → ℕ → Result Net
+afterPairs file n processes pairs at =
+    reading (ranged file 0 16 at) λ count next.
+    afterChannelCount file n processes pairs count next
+
+unfoldable pub afterPairCount : List ℕ → ℕ → List Process → ℕ → ℕ → Result Net
+afterPairCount file n processes count at =
+    reading (many count (onePair file n) at) λ pairs next.
     andThen (require (not (cyclic n pairs)) BadPair next) λ ok.
     afterPairs file n processes pairs next
 
-unfoldable pub afterVersion : List ℕ → ℕ → Result Net
-afterVersion file at =
-    reading (ranged file 1 12 at) λ n at₁.
-    reading (many n (oneProcess file) at₁) λ processes next.
+unfoldable pub afterProcesses : List ℕ → ℕ → List Process → ℕ → Result Net
+afterProcesses file n processes at =
+    reading (ranged file 0 66 at) λ count next.
+    afterPairCount file n processes count next
+
+unfoldable pub afterProcessCount : List ℕ → ℕ → ℕ → Result Net
+afterProcessCount file n at =
+    reading (many n (oneProcess file) at) λ processes next.
     andThen (require (fitsFrame processes) TooLarge next) λ ok.
     afterProcesses file n processes next
+
+unfoldable pub afterVersion : List ℕ → ℕ → Result Net
+afterVersion file at =
+    reading (ranged file 1 12 at) λ n next.
+    afterProcessCount file n next
 
 unfoldable pub load : List ℕ → Result Net
 load file =

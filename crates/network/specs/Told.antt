@@ -1,8 +1,9 @@
 -- The code's answers, from the results of the definitions.
 use Prim.Native.Nat.{ℕ, _+_}
+use mathlib.Core.Path.{_≡_}
 use mathlib.Core.Bool.{Bool, true, false, _&&_, _||_}
 use mathlib.Core.List.{List}
-use lib.ListN.{getD, replicate}
+use lib.ListN.{length, getD, replicate}
 use Rattle.reply.specs.Result.{Result, done, refused, answerOf, orZero}
 use Rattle.reply.specs.declared.Reply.{Reply}
 use Rattle.number.specs.Parts.{Part, part, reading}
@@ -86,3 +87,9 @@ channelsOf r = record {
   channels = orZero (replicate 16 noChannel) (λ (p : Part (List Channel)). fillTo 16 noChannel (p .it)) r;
   next = orZero 0 (λ (p : Part (List Channel)). p .next) r;
 }
+
+-- an array whose first `count` elements are a list, with zeros past them
+pub record Filled {A : Type 0} (room : ℕ) (none : A) (count : ℕ) (stored : List A) : Type 0 where
+  pub list : List A
+  pub size : length list ≡ count
+  pub stands : stored ≡ fillTo room none list

@@ -1,8 +1,11 @@
 // The network file: a reader and a writer by one rule.
 mod channels;
+mod cycles;
+mod frame;
 mod numbers;
 mod pairs;
 mod processes;
+mod reading;
 
 use reply::Answer;
 

@@ -14,7 +14,7 @@ use Rattle.number.specs.Exact.{number-honest}
 use Rattle.network.specs.Frame.{fitsFrame}
 use Rattle.network.specs.Pairs.{goodPair, goodEnds, cyclic}
 use Rattle.network.specs.Net.{Net, fill}
-use Rattle.network.specs.Read.{ranged, oneProcess, onePair, channelWith, oneChannel, goodAction, oneAction, oneProgram, afterChannels, afterPairs, afterProcesses, afterVersion, load, readFile}
+use Rattle.network.specs.Read.{ranged, oneProcess, onePair, channelWith, oneChannel, goodAction, oneAction, oneProgram, afterChannels, afterChannelCount, afterPairs, afterPairCount, afterProcesses, afterProcessCount, afterVersion, load, readFile}
 use Rattle.network.specs.declared.Process.{Process}
 use Rattle.network.specs.declared.Pair.{Pair}
 use Rattle.network.specs.declared.Channel.{Channel}
@@ -59,7 +59,7 @@ module _ (file : List ℕ) where
 
   -- no refusal of a file carries reply 0
   pub honest-load : Honest (load file)
-  unfolding load afterVersion afterProcesses afterPairs afterChannels
+  unfolding load afterVersion afterProcesses afterProcessCount afterChannelCount afterPairs afterPairCount afterChannels
   honest-load =
       honest-then _ _ (number-honest _ _) λ v. honest-then _ _ (honest-require (eqb (v .it) 1) WrongVersion 0 (omega arith)) λ ok₁.
       honest-then _ _ (ranged-honest _ _ _) λ n.

@@ -20,7 +20,7 @@ use Rattle.network.specs.Lists.{eachOf}
 use Rattle.network.specs.Frame.{noProcess, fitsFrame}
 use Rattle.network.specs.Pairs.{noPair, goodPair, cyclic}
 use Rattle.network.specs.Net.{Net, noChannel}
-use Rattle.network.specs.Read.{ranged, oneProcess, onePair, oneChannel, oneProgram, afterChannels, afterPairs, afterProcesses, afterVersion, load}
+use Rattle.network.specs.Read.{ranged, oneProcess, onePair, oneChannel, oneProgram, afterChannels, afterChannelCount, afterPairs, afterPairCount, afterProcesses, afterProcessCount, afterVersion, load}
 use Rattle.network.specs.Valid.{GoodProcess, GoodChannel}
 use Rattle.network.specs.declared.Pair.{Pair}
 use Rattle.network.specs.declared.Channel.{Channel}
@@ -90,7 +90,7 @@ module _ (file : List ℕ) where
   all-of-it b end s h = s .begins ∙ rw (drop-of-length-le file h, append-nil b)
 
   pub load-passes : (net : Net) → load file ≡ done net → Passes net × (Bytes file → file ≡ netBytes net)
-  unfolding load afterVersion afterProcesses afterPairs afterChannels bytesWith
+  unfolding load afterVersion afterProcesses afterProcessCount afterChannelCount afterPairs afterPairCount afterChannels bytesWith
   load-passes net e =
       accepted (numberAt file 0) _ _ e λ v r₁ e₁. required (eqb (v .it) 1) WrongVersion 0 _ _ e₁ λ t₁ e₂.
       accepted (ranged file 1 12 (v .next)) _ _ e₂ λ n r₂ e₃.
@@ -131,7 +131,7 @@ module _ (file : List ℕ) where
   cutting {P} {at} b c s k = let (s₁, s₂) = cut file b c s in k (at + length b) s₁ s₂
 
   pub passes-load : (net : Net) → Passes net → file ≡ netBytes net → load file ≡ done net
-  unfolding load afterVersion afterProcesses afterPairs afterChannels bytesWith
+  unfolding load afterVersion afterProcesses afterProcessCount afterChannelCount afterPairs afterPairCount afterChannels bytesWith
   passes-load net t e =
       cutting (encode 1) _ (whole-file (netBytes net) e) λ h₁ s₁ c₁.
       cutting (encode (length (net .processes))) _ c₁ λ h₂ s₂ c₂.
