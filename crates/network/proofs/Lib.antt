@@ -8,3 +8,9 @@ mod Tails
 mod Multiples
 mod FrameLoops
 mod RowSteps
+mod Actions
+mod ActionLoop
+mod Laying
+mod ProgramLoop
+mod WholeFile
+mod EntryPoints

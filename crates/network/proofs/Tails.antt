@@ -30,7 +30,7 @@ use Rattle.network.specs.ChainsSame.{chains-same}
 use Rattle.network.specs.Frame.{noProcess, fitsFrame}
 use Rattle.network.specs.Pairs.{noPair, isPair, goodEnds, aheads, cyclic}
 use Rattle.network.specs.Net.{Net, noChannel, noNetwork}
-use Rattle.network.specs.Read.{ranged, oneProcess, onePair, channelWith, oneChannel, afterChannels, afterChannelCount, afterPairs, afterPairCount, afterProcesses, afterProcessCount, loadedOf}
+use Rattle.network.specs.Read.{ranged, oneProcess, onePair, channelWith, oneChannel, afterChannels, afterChannelCount, afterPairs, afterPairCount, afterProcesses, afterProcessCount, afterVersion, loadedOf}
 use Rattle.network.specs.Told.{isDone, processesOf, pairRows, pairsOf, endsBy, channelsOf, Filled}
 use Rattle.network.specs.declared.Process.{Process}
 use Rattle.network.specs.declared.Pair.{Pair}
@@ -178,3 +178,54 @@ module _ (file : List ℕ) (n count at : ℕ) (processes : List Process) (pairs 
   pub channels-read : r ≡ loadedOf (afterChannels file n processes pairs (take count stored) next) → r ≡ loadedOf (afterChannelCount file n processes pairs count at)
   unfolding afterChannelCount
   channels-read is = is ∙ rw (w .is, taken (oneChannel file n pairs) count at w)
+
+-- what is told of the channels judged by rows is told of them judged by pairs
+pub channels-by-rows : (file : List ℕ) (n : ℕ) (pairs : List Pair) (rows : List Row) (count at : ℕ) → n ≤ 12 → rows ≡ pairRows pairs
+    → {p : ChannelsRead} → p ≡ channelsOf (many count (λ before. channelWith file (endsBy n rows)) at)
+    → Told 16 noChannel (many count (oneChannel file n pairs) at) (p .ok) (p .answer) (p .channels) (p .next)
+channels-by-rows file n pairs rows count at small e told = channels-told (told ∙ ap channelsOf (same-channels file n pairs rows count at small e))
+
+-- ---- each part by its name: after a number, after none; and where a list is refused
+
+module _ (file : List ℕ) (at : ℕ) (b : Number) (told : b ≡ numberOf (ranged file 1 12 at)) (r : Loaded) where
+  pub version-on : (value next : ℕ) → b ≡ Value value next → r ≡ loadedOf (afterProcessCount file value next) → r ≡ loadedOf (afterVersion file at)
+  unfolding afterVersion
+  version-on = after-number (ranged file 1 12 at) (afterProcessCount file) b told r
+
+  pub version-cut : (reply : Reply) (place : ℕ) → b ≡ Refused reply place → r ≡ refusedAt reply place → r ≡ loadedOf (afterVersion file at)
+  unfolding afterVersion
+  version-cut = after-none (ranged file 1 12 at) (afterProcessCount file) b told r
+
+module _ (file : List ℕ) (n : ℕ) (processes : List Process) (at : ℕ) (b : Number) (told : b ≡ numberOf (ranged file 0 66 at)) (r : Loaded) where
+  pub processes-on : (value next : ℕ) → b ≡ Value value next → r ≡ loadedOf (afterPairCount file n processes value next) → r ≡ loadedOf (afterProcesses file n processes at)
+  unfolding afterProcesses
+  processes-on = after-number (ranged file 0 66 at) (afterPairCount file n processes) b told r
+
+  pub processes-cut : (reply : Reply) (place : ℕ) → b ≡ Refused reply place → r ≡ refusedAt reply place → r ≡ loadedOf (afterProcesses file n processes at)
+  unfolding afterProcesses
+  processes-cut = after-none (ranged file 0 66 at) (afterPairCount file n processes) b told r
+
+module _ (file : List ℕ) (n : ℕ) (processes : List Process) (pairs : List Pair) (at : ℕ) (b : Number) (told : b ≡ numberOf (ranged file 0 16 at)) (r : Loaded) where
+  pub pairs-on : (value next : ℕ) → b ≡ Value value next → r ≡ loadedOf (afterChannelCount file n processes pairs value next) → r ≡ loadedOf (afterPairs file n processes pairs at)
+  unfolding afterPairs
+  pairs-on = after-number (ranged file 0 16 at) (afterChannelCount file n processes pairs) b told r
+
+  pub pairs-cut : (reply : Reply) (place : ℕ) → b ≡ Refused reply place → r ≡ refusedAt reply place → r ≡ loadedOf (afterPairs file n processes pairs at)
+  unfolding afterPairs
+  pairs-cut = after-none (ranged file 0 16 at) (afterChannelCount file n processes pairs) b told r
+
+module _ {ok : Bool} {answer : Answer} {next : ℕ} (r : Loaded) (is : r ≡ record { answer = answer; network = noNetwork }) where
+  pub process-stop : (file : List ℕ) (n at : ℕ) (stored : List Process) → Told 12 noProcess (many n (oneProcess file) at) ok answer stored next → ok ≡ false
+      → r ≡ loadedOf (afterProcessCount file n at)
+  unfolding afterProcessCount
+  process-stop file n at stored t e = stopped (many n (oneProcess file) at) t e _ r is
+
+  pub pair-stop : (file : List ℕ) (n : ℕ) (processes : List Process) (count at : ℕ) (stored : List Pair)
+      → Told 66 noPair (many count (onePair file n) at) ok answer stored next → ok ≡ false → r ≡ loadedOf (afterPairCount file n processes count at)
+  unfolding afterPairCount
+  pair-stop file n processes count at stored t e = stopped (many count (onePair file n) at) t e _ r is
+
+  pub channel-stop : (file : List ℕ) (n : ℕ) (processes : List Process) (pairs : List Pair) (count at : ℕ) (stored : List Channel)
+      → Told 16 noChannel (many count (oneChannel file n pairs) at) ok answer stored next → ok ≡ false → r ≡ loadedOf (afterChannelCount file n processes pairs count at)
+  unfolding afterChannelCount
+  channel-stop file n processes pairs count at stored t e = stopped (many count (oneChannel file n pairs) at) t e _ r is

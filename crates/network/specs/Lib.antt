@@ -10,7 +10,11 @@ pub mod Pairs
 pub mod PairLaws
 pub mod Net
 pub mod Read
+pub mod Honest
 pub mod Write
 pub mod Valid
 pub mod Opens
 pub mod Told
+pub mod ProgramsTold
+pub mod ProgramLaws
+pub mod Laid

@@ -5,9 +5,20 @@ mod frame;
 mod numbers;
 mod pairs;
 mod processes;
+mod programs;
 mod reading;
+mod writing;
 
+use number::Number;
 use reply::Answer;
+use reply::Reply;
+ghost use mathlib.Core.Path.{_≡_};
+ghost use Prim.Native.Nat.{_≤_};
+ghost use lib.ListN.{length, replicate};
+ghost use lib.Seq.{sets};
+ghost use Rattle.reply.specs.Result.{answerOf};
+ghost use Rattle.network.specs.Read.{load, readFile};
+ghost use Rattle.network.specs.Write.{wrote, wroteTo};
 
 // One process: its period, the jobs it releases each time, and each job's relative deadline and budget, in ticks.
 pub struct Process {
@@ -60,4 +71,75 @@ pub struct Loaded {
 pub struct Written {
     pub answer: Answer,
     pub length: usize,
+}
+
+// The network of a file.
+pub fn read(file: &[u8]) -> Loaded
+    ensures { λ r. ⌜ r ≡ readFile (now (file .entry)) ⌝ }
+{
+    match number::read_number(file, 0) {
+        Number::Value { value, next } => {
+            if value == 1 {
+                return reading::after_version(file, next);
+            }
+            reading::refused(Answer {
+                reply: Reply::WrongVersion,
+                place: 0,
+            })
+        }
+        Number::Refused { reply, place } => reading::refused(Answer { reply, place }),
+    }
+}
+
+fn judge(file: &[u8]) -> Answer
+    ensures { λ r. ⌜ r ≡ answerOf (load (now (file .entry))) ⌝ }
+{
+    let loaded = read(file);
+    loaded.answer
+}
+
+fn no_bytes() -> [u8; 7060]
+    ensures { λ r. ⌜ r ≡ replicate 7060 0 ⌝ }
+{
+    [0; 7060]
+}
+
+// Copies bytes to the front of a buffer that has room for them.
+fn copy(bytes: &[u8], out: &mut [u8])
+    requires { ⌜ length (now bytes) ≤ length (now out) ⌝ }
+    ensures { λ _. ⌜ now (out .exit) ≡ sets (now (out .entry)) 0 (now (bytes .entry)) ⌝ }
+{
+    let mut i = 0usize;
+    while i < bytes.len() {
+        out[i] = bytes[i];
+        i += 1;
+    }
+}
+
+// Writes the file of a network, if the reader would accept it and there is room; else nothing.
+pub fn write(network: Network, out: &mut [u8]) -> Written
+    ensures { λ r. ⌜ r ≡ wrote network (now (out .entry)) ⌝ }
+    ensures { λ r. ⌜ now (out .exit) ≡ wroteTo network (now (out .entry)) ⌝ }
+{
+    let mut bytes = no_bytes();
+    let size = writing::encode_network(network, &mut bytes);
+    let answer = judge(&bytes[..size]);
+    let reply = answer.reply;
+    if reply::number(reply) != 0 {
+        return Written { answer, length: 0 };
+    }
+    if out.len() < size {
+        return Written {
+            answer: Answer {
+                reply: Reply::ShortBuffer,
+                place: 0,
+            },
+            length: 0,
+        };
+    }
+    copy(&bytes[..size], out);
+    Written {
+        answer,
+        length: size,
+    }
 }

@@ -69,20 +69,20 @@ module _ (judge : ℕ → Result (Unit {0})) where
 -- ---- no refusal says "done"
 
 pub record Honest {A : Type 0} (r : Result A) : Type 0 where
-  pub never : (reply : Reply) (place : ℕ) → r ≡ refused reply place → reply ≡ Done → ⊥
+  pub above : (reply : Reply) (place : ℕ) → r ≡ refused reply place → 0 < replyNumber reply
 
 refused-same : {A : Type 0} {r s : Reply} {p q : ℕ} → _≡_ {A = Result A} (refused r p) (refused s q) → r ≡ s
 refused-same e = cc
 
 pub honest-done : {A : Type 0} (a : A) → Honest (done a)
-honest-done a = record { never = λ reply place e d. refused-not (sym e) }
+honest-done a = record { above = λ reply place e. refused-not (sym e) }
 
 pub honest-refused : {A : Type 0} (reply : Reply) (place : ℕ) → 0 < replyNumber reply → Honest {A = A} (refused reply place)
-honest-refused reply place h = record { never = λ reply′ place′ e d. omega (arith, ap replyNumber (refused-same e ∙ d)) }
+honest-refused reply place h = record { above = λ reply′ place′ e. rw (refused-same e) at h }
 
 pub honest-then : {A B : Type 0} (r : Result A) (next : A → Result B) → Honest r → ((a : A) → Honest (next a)) → Honest (andThen r next)
 honest-then (done a) next h k = k a
-honest-then (refused reply place) next h k = record { never = λ reply′ place′ e d. h .never reply place refl (refused-same e ∙ d) }
+honest-then (refused reply place) next h k = honest-refused reply place (h .above reply place refl)
 
 pub honest-require : (test : Bool) (reply : Reply) (place : ℕ) → 0 < replyNumber reply → Honest (require test reply place)
 honest-require true reply place h = honest-done tt
@@ -93,7 +93,15 @@ unfolding inOrder
 honest-order zero judge h = honest-done tt
 honest-order (suc n) judge h = honest-then (inOrder n judge) (λ ok. judge n) (honest-order n judge (λ i l. h i (omega arith))) (λ ok. h n (omega arith))
 
--- a caller that sees "done" has what the call gives
+-- a caller that sees reply 0 has what the call gives
+pub zero-means : {A P : Type 0} (r : Result A) → Honest r → replyNumber (answerOf r .reply) ≡ 0 → ((a : A) → r ≡ done a → P) → P
+zero-means (done a) h e k = k a refl
+zero-means (refused reply place) h e k = absurd (omega (arith, h .above reply place refl))
+
 pub done-means : {A P : Type 0} (r : Result A) → Honest r → answerOf r .reply ≡ Done → ((a : A) → r ≡ done a → P) → P
-done-means (done a) h e k = k a refl
-done-means (refused reply place) h e k = absurd (h .never reply place refl e)
+done-means r h e k = zero-means r h (ap replyNumber e) k
+
+-- and one that sees another reply has a refusal
+pub other-means : {A P : Type 0} (r : Result A) → (replyNumber (answerOf r .reply) ≡ 0 → ⊥) → ((reply : Reply) (place : ℕ) → r ≡ refused reply place → P) → P
+other-means (done a) n k = absurd (n refl)
+other-means (refused reply place) n k = k reply place refl

@@ -21,7 +21,7 @@ use Rattle.roundtrip.specs.Structs.{Arrays, Words}
 use Rattle.roundtrip.specs.Words.{words-fields}
 use Rattle.roundtrip.specs.Back.{Tells, bytes-tell}
 use Rattle.roundtrip.specs.Kept.{Kept, kept}
-use Rattle.roundtrip.specs.Honest.{honest-load}
+use Rattle.network.specs.Honest.{honest-load}
 
 -- ---- the bytes that the writer gives
 

@@ -12,7 +12,6 @@ pub mod Structs
 pub mod Words
 pub mod Back
 pub mod Kept
-pub mod Honest
 pub mod Given
 pub mod Promise
 pub mod Longest

@@ -24,7 +24,7 @@ use Rattle.roundtrip.specs.Sizes.{bytes-most}
 use Rattle.roundtrip.specs.Structs.{Arrays, Words}
 use Rattle.roundtrip.specs.Back.{valid-bytes}
 use Rattle.roundtrip.specs.Kept.{Kept, kept, fill-arrays}
-use Rattle.roundtrip.specs.Honest.{honest-load, read-done}
+use Rattle.network.specs.Honest.{honest-load, read-done}
 use Rattle.roundtrip.specs.Given.{writer-gives, writtenTo, writer-done}
 
 -- ---- a valid network and its struct
