@@ -21,6 +21,18 @@ pub fn bytes(s: &[u8]) {
     }
 }
 
+// The first byte and the last, if there are any.
+pub fn ends(s: &[u8]) {
+    if 0 < s.len() {
+        text(b" first ");
+        let first = s[0];
+        io::print_hex(STDOUT_FILENO, wide(first), 2);
+        text(b", last ");
+        let last = s[s.len() - 1];
+        io::print_hex(STDOUT_FILENO, wide(last), 2);
+    }
+}
+
 pub fn refusal(reply: Reply, place: usize) {
     text(b"refused ");
     number(reply::number(reply) as u64);

@@ -1,0 +1,32 @@
+// The frame of a network: its jobs in sequence, which job precedes which, and the precedence graph.
+use marks::Row;
+use network::Network;
+use reply::Answer;
+
+// One job: its process, release, absolute deadline and budget, in ticks from the frame's start.
+pub struct Job {
+    pub process: u32,
+    pub release: u32,
+    pub deadline: u32,
+    pub budget: u32,
+}
+
+// What planner, checker and runs use. Row j of `before` marks every job that precedes job j. All zero when the file is refused.
+pub struct Framed {
+    pub answer: Answer,
+    pub network: Network,
+    pub frame: u32,
+    pub job_count: u32,
+    pub jobs: [Job; 128],
+    pub before: [Row; 128],
+}
+
+// The published graph. Row i of `rows` marks each job that an edge leads to from job i. All zero when the file is refused.
+pub struct Graph {
+    pub answer: Answer,
+    pub job_count: u32,
+    pub frame: u32,
+    pub edges: u32,
+    pub jobs: [Job; 128],
+    pub rows: [Row; 128],
+}
