@@ -4,75 +4,8 @@ use crate::print;
 use network::Network;
 
 // Network K of the rules.
-const K: [u8; 67] = [
-    0x01,
-    0x03,
-    0x14,
-    0x01,
-    0x14,
-    0x03,
-    0x0A,
-    0x01,
-    0x0A,
-    0x04,
-    0x14,
-    0x01,
-    0x14,
-    0x06,
-    0x02,
-    0x00,
-    0x01,
-    0x01,
-    0x02,
-    0x02,
-    0x00,
-    0x00,
-    0x01,
-    0x02,
-    0x01,
-    0x01,
-    0x02,
-    0x01,
-    0x03,
-    0x05,
-    0x00,
-    0x01,
-    0x00,
-    0x07,
-    0x01,
-    0x01,
-    0x00,
-    0x04,
-    0x00,
-    0x00,
-    0x00,
-    0x03,
-    0x03,
-    0x00,
-    0x00,
-    0x01,
-    0x07,
-    0x01,
-    0x01,
-    0x00,
-    0x04,
-    0x01,
-    0x00,
-    0x00,
-    0x03,
-    0x03,
-    0x01,
-    0x00,
-    0x01,
-    0x07,
-    0x01,
-    0x01,
-    0x00,
-    0x06,
-    0x00,
-    0x00,
-    0x00,
-];
+const K: [u8; 67] =
+    *b"\x01\x03\x14\x01\x14\x03\x0A\x01\x0A\x04\x14\x01\x14\x06\x02\x00\x01\x01\x02\x02\x00\x00\x01\x02\x01\x01\x02\x01\x03\x05\x00\x01\x00\x07\x01\x01\x00\x04\x00\x00\x00\x03\x03\x00\x00\x01\x07\x01\x01\x00\x04\x01\x00\x00\x03\x03\x01\x00\x01\x07\x01\x01\x00\x06\x00\x00\x00";
 
 pub fn run() {
     whole_files();
@@ -86,277 +19,66 @@ pub fn run() {
 }
 
 fn whole_files() {
-    let none = [0u8; 0];
-    read(b"an empty file", &none);
+    read(b"an empty file", b"");
     let k = K;
     read(b"network K", &k);
-    let one_more = [
-        0x01u8,
-        0x03,
-        0x14,
-        0x01,
-        0x14,
-        0x03,
-        0x0A,
-        0x01,
-        0x0A,
-        0x04,
-        0x14,
-        0x01,
-        0x14,
-        0x06,
-        0x02,
-        0x00,
-        0x01,
-        0x01,
-        0x02,
-        0x02,
-        0x00,
-        0x00,
-        0x01,
-        0x02,
-        0x01,
-        0x01,
-        0x02,
-        0x01,
-        0x03,
-        0x05,
-        0x00,
-        0x01,
-        0x00,
-        0x07,
-        0x01,
-        0x01,
-        0x00,
-        0x04,
-        0x00,
-        0x00,
-        0x00,
-        0x03,
-        0x03,
-        0x00,
-        0x00,
-        0x01,
-        0x07,
-        0x01,
-        0x01,
-        0x00,
-        0x04,
-        0x01,
-        0x00,
-        0x00,
-        0x03,
-        0x03,
-        0x01,
-        0x00,
-        0x01,
-        0x07,
-        0x01,
-        0x01,
-        0x00,
-        0x06,
-        0x00,
-        0x00,
-        0x00,
-        0x00,
-    ];
-    read(b"K and one byte", &one_more);
+    read(
+        b"K and one byte",
+        b"\x01\x03\x14\x01\x14\x03\x0A\x01\x0A\x04\x14\x01\x14\x06\x02\x00\x01\x01\x02\x02\x00\x00\x01\x02\x01\x01\x02\x01\x03\x05\x00\x01\x00\x07\x01\x01\x00\x04\x00\x00\x00\x03\x03\x00\x00\x01\x07\x01\x01\x00\x04\x01\x00\x00\x03\x03\x01\x00\x01\x07\x01\x01\x00\x06\x00\x00\x00\x00",
+    );
 }
 
 fn numbers() {
-    let version = [0x02u8];
-    read(b"version 2", &version);
-    let malformed = [0x01u8, 0x01, 0x0A, 0x01, 0x80, 0x00];
-    read(b"a deadline with a zero last group", &malformed);
-    let ends = [0x01u8, 0x01, 0x0A, 0x01, 0x0A, 0x80];
-    read(b"a file that ends in a budget", &ends);
-    let count = [0x01u8, 0x0D];
-    read(b"13 processes", &count);
-    let late = [0x01u8, 0x01, 0x0A, 0x01, 0x0B, 0x01];
-    read(b"a deadline beyond the period", &late);
+    read(b"version 2", b"\x02");
+    read(
+        b"a deadline with a zero last group",
+        b"\x01\x01\x0A\x01\x80\x00",
+    );
+    read(b"a file that ends in a budget", b"\x01\x01\x0A\x01\x0A\x80");
+    read(b"13 processes", b"\x01\x0D");
+    read(b"a deadline beyond the period", b"\x01\x01\x0A\x01\x0B\x01");
 }
 
 fn pairs() {
-    let beyond = [
-        0x01u8,
-        0x02,
-        0x0A,
-        0x01,
-        0x0A,
-        0x01,
-        0x0A,
-        0x01,
-        0x0A,
-        0x01,
-        0x01,
-        0x00,
-        0x02,
-    ];
-    read(b"a pair with a process that is not there", &beyond);
-    let twice = [
-        0x01u8,
-        0x02,
-        0x0A,
-        0x01,
-        0x0A,
-        0x01,
-        0x0A,
-        0x01,
-        0x0A,
-        0x01,
-        0x02,
-        0x00,
-        0x01,
-        0x00,
-        0x01,
-    ];
-    read(b"a repeated pair", &twice);
+    read(
+        b"a pair with a process that is not there",
+        b"\x01\x02\x0A\x01\x0A\x01\x0A\x01\x0A\x01\x01\x00\x02",
+    );
+    read(
+        b"a repeated pair",
+        b"\x01\x02\x0A\x01\x0A\x01\x0A\x01\x0A\x01\x02\x00\x01\x00\x01",
+    );
     // Not a repeated pair but a cycle, found before the channel count is missed.
-    let reversed = [
-        0x01u8,
-        0x02,
-        0x0A,
-        0x01,
-        0x0A,
-        0x01,
-        0x0A,
-        0x01,
-        0x0A,
-        0x01,
-        0x02,
-        0x00,
-        0x01,
-        0x01,
-        0x00,
-    ];
-    read(b"a reversed pair, and no channel count", &reversed);
+    read(
+        b"a reversed pair, and no channel count",
+        b"\x01\x02\x0A\x01\x0A\x01\x0A\x01\x0A\x01\x02\x00\x01\x01\x00",
+    );
 }
 
 fn channels() {
     // Its writer takes five bytes; the capacity is judged before the ends.
-    let capacity = [
-        0x01u8,
-        0x02,
-        0x0A,
-        0x01,
-        0x0A,
-        0x01,
-        0x0A,
-        0x01,
-        0x0A,
-        0x01,
-        0x01,
-        0x00,
-        0x01,
-        0x01,
-        0x00,
-        0xFF,
-        0xFF,
-        0xFF,
-        0xFF,
-        0x0F,
-        0x01,
-        0x09,
-    ];
-    read(b"capacity 9 after a five-byte end", &capacity);
-    let end = [
-        0x01u8,
-        0x02,
-        0x0A,
-        0x01,
-        0x0A,
-        0x01,
-        0x0A,
-        0x01,
-        0x0A,
-        0x01,
-        0x01,
-        0x00,
-        0x01,
-        0x01,
-        0x00,
-        0xFF,
-        0xFF,
-        0xFF,
-        0xFF,
-        0x0F,
-        0x01,
-        0x08,
-    ];
-    read(b"capacity 8 after a five-byte end", &end);
-    let board = [
-        0x01u8,
-        0x02,
-        0x0A,
-        0x01,
-        0x0A,
-        0x01,
-        0x0A,
-        0x01,
-        0x0A,
-        0x01,
-        0x01,
-        0x00,
-        0x01,
-        0x01,
-        0x01,
-        0x00,
-        0x01,
-        0x02,
-    ];
-    read(b"a board with capacity 2", &board);
+    read(
+        b"capacity 9 after a five-byte end",
+        b"\x01\x02\x0A\x01\x0A\x01\x0A\x01\x0A\x01\x01\x00\x01\x01\x00\xFF\xFF\xFF\xFF\x0F\x01\x09",
+    );
+    read(
+        b"capacity 8 after a five-byte end",
+        b"\x01\x02\x0A\x01\x0A\x01\x0A\x01\x0A\x01\x01\x00\x01\x01\x00\xFF\xFF\xFF\xFF\x0F\x01\x08",
+    );
+    read(
+        b"a board with capacity 2",
+        b"\x01\x02\x0A\x01\x0A\x01\x0A\x01\x0A\x01\x01\x00\x01\x01\x01\x00\x01\x02",
+    );
     // Pairs 0-1 and 1-2; a chain leads from 0 to 2, but they have no pair of their own.
-    let chain = [
-        0x01u8,
-        0x03,
-        0x0A,
-        0x01,
-        0x0A,
-        0x01,
-        0x0A,
-        0x01,
-        0x0A,
-        0x01,
-        0x0A,
-        0x01,
-        0x0A,
-        0x01,
-        0x02,
-        0x00,
-        0x01,
-        0x01,
-        0x02,
-        0x01,
-        0x00,
-        0x00,
-        0x02,
-        0x01,
-    ];
-    read(b"a channel whose ends have only a chain", &chain);
+    read(
+        b"a channel whose ends have only a chain",
+        b"\x01\x03\x0A\x01\x0A\x01\x0A\x01\x0A\x01\x0A\x01\x0A\x01\x02\x00\x01\x01\x02\x01\x00\x00\x02\x01",
+    );
     // A channel against the direction of its pair is a channel.
-    let against = [
-        0x01u8,
-        0x02,
-        0x0A,
-        0x01,
-        0x0A,
-        0x01,
-        0x0A,
-        0x01,
-        0x0A,
-        0x01,
-        0x01,
-        0x00,
-        0x01,
-        0x01,
-        0x00,
-        0x01,
-        0x00,
-        0x08,
-        0x00,
-        0x00,
-    ];
-    read(b"a channel against its pair", &against);
+    read(
+        b"a channel against its pair",
+        b"\x01\x02\x0A\x01\x0A\x01\x0A\x01\x0A\x01\x01\x00\x01\x01\x00\x01\x00\x08\x00\x00",
+    );
 }
 
 fn actions() {
@@ -380,43 +102,22 @@ fn actions() {
 
 fn frames() {
     // Refused before the pair count is missed.
-    let long = [
-        0x01u8,
-        0x02,
-        0xE7,
-        0x07,
-        0x01,
-        0x01,
-        0x01,
-        0xE8,
-        0x07,
-        0x01,
-        0x01,
-        0x01,
-    ];
-    read(b"periods 999 and 1000, and no pair count", &long);
-    let just = [
-        0x01u8,
-        0x02,
-        0xE8,
-        0x07,
-        0x01,
-        0x01,
-        0x01,
-        0x50,
-        0x01,
-        0x01,
-        0x01,
-        0x00,
-        0x00,
-        0x00,
-        0x00,
-    ];
-    read(b"periods 1000 and 80: a frame of 2000", &just);
-    let many = [0x01u8, 0x02, 0x21, 0x01, 0x01, 0x01, 0x01, 0x04, 0x01, 0x01];
-    read(b"periods 33 and 1, burst 4: 133 jobs", &many);
-    let full = [0x01u8, 0x01, 0x01, 0x04, 0x01, 0x01, 0x00, 0x00, 0x00];
-    read(b"period 1, burst 4: 4 jobs", &full);
+    read(
+        b"periods 999 and 1000, and no pair count",
+        b"\x01\x02\xE7\x07\x01\x01\x01\xE8\x07\x01\x01\x01",
+    );
+    read(
+        b"periods 1000 and 80: a frame of 2000",
+        b"\x01\x02\xE8\x07\x01\x01\x01\x50\x01\x01\x01\x00\x00\x00\x00",
+    );
+    read(
+        b"periods 33 and 1, burst 4: 133 jobs",
+        b"\x01\x02\x21\x01\x01\x01\x01\x04\x01\x01",
+    );
+    read(
+        b"period 1, burst 4: 4 jobs",
+        b"\x01\x01\x01\x04\x01\x01\x00\x00\x00",
+    );
 }
 
 // Network K as it is read and written again.
