@@ -1,6 +1,15 @@
 pub mod Order
+pub mod AheadLaws
 pub mod Sequence
 pub mod Work
 pub mod Graph
 pub mod Opens
 pub mod Examples
+pub mod OrderLaws
+pub mod Elements
+pub mod TakeLaws
+pub mod Releases
+pub mod SequenceLaws
+pub mod FrameJobs
+pub mod WorkLaws
+pub mod Promise2
