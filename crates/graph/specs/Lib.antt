@@ -12,4 +12,11 @@ pub mod Releases
 pub mod SequenceLaws
 pub mod FrameJobs
 pub mod WorkLaws
-pub mod Promise2
+pub mod Promise
+pub mod SequenceTold
+pub mod PrecedenceTold
+pub mod ReductionTold
+pub mod ReductionLaws
+pub mod GraphLaws
+pub mod FrameTold
+pub mod EntryLaws

@@ -1,0 +1,11 @@
+mod Ancestors
+mod BeforeJobs
+mod FreeLoops
+mod Gathering
+mod RelativeMarks
+mod ReleasedLoop
+mod SequenceLoops
+mod Stores
+mod TakeOne
+mod Totals
+mod Turning

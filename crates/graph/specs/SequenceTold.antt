@@ -1,0 +1,59 @@
+-- What the functions that build the table of jobs ask for, and what they give.
+use Prim.Native.Nat.{ℕ, _+_, _≤_, _<_}
+use mathlib.Core.Path.{_≡_}
+use mathlib.Core.Bool.{Bool, cond, _&&_}
+use mathlib.Core.List.{List}
+use lib.ListN.{length, getD, take}
+use Rattle.marks.specs.Row.{marked, noMarks}
+use Rattle.marks.specs.declared.Row.{Row}
+use Rattle.network.specs.Lists.{fillTo}
+use Rattle.network.specs.Frame.{processAt}
+use Rattle.network.specs.Valid.{GoodProcess}
+use Rattle.network.specs.declared.Process.{Process}
+use Rattle.graph.specs.Order.{rowRelation}
+use Rattle.graph.specs.Sequence.{noJob, releasedAt, releasedNow, isPending, pendingCount, sequenceTo}
+use Rattle.graph.specs.declared.Job.{Job}
+use Rattle.graph.specs.declared.sequence.Jobs.{Jobs}
+use Rattle.graph.specs.declared.sequence.Released.{Released}
+
+-- the job that a process releases at a time, its number being p
+abbrev pub jobFrom : Process → ℕ → ℕ → Job
+jobFrom process time p = record { process = p; release = time; deadline = time + process .deadline; budget = process .budget }
+
+-- how many jobs a process releases at a time
+unfoldable pub releasedFrom : ℕ → Process → ℕ
+releasedFrom time process = cond (releasedAt process time) (process .burst) 0
+
+-- process p waits for process q, which is pending and ahead of it
+unfoldable pub waitsFor : List ℕ → List Row → ℕ → ℕ → Bool
+waitsFor pending ahead p q = isPending pending q && marked (getD ahead q noMarks) p
+
+-- the first n processes of an array
+pub record GoodProcesses (n : ℕ) (processes : List Process) : Type 0 where
+  pub few : n ≤ 12
+  pub good : (p : ℕ) → p < n → GoodProcess (processAt processes p)
+
+-- what the first n processes release at a time
+pub record TellsReleased (n : ℕ) (processes : List Process) (time : ℕ) (r : Released) : Type 0 where
+  pub total : r .total ≡ pendingCount (releasedNow (take n processes) time)
+  pub counts : take n (r .counts) ≡ releasedNow (take n processes) time
+
+-- a table holds these jobs
+pub record HoldsJobs (held : List Job) (r : Jobs) : Type 0 where
+  pub count : r .count ≡ length held
+  pub jobs : r .jobs ≡ fillTo 128 noJob held
+
+-- a table holds the jobs released before a time, and has room for those of that time
+pub record TakesReleased (n : ℕ) (processes : List Process) (ahead : List Row) (time : ℕ) (released : List ℕ) (table : Jobs) : Type 0 where
+  pub good : GoodProcesses n processes
+  pub early : time ≤ 2000
+  pub now-pending : take n released ≡ releasedNow (take n processes) time
+  pub before : HoldsJobs (sequenceTo (take n processes) (rowRelation n ahead) time) table
+  pub room : length (sequenceTo (take n processes) (rowRelation n ahead) (time + 1)) ≤ 128
+
+-- a frame of the first n processes, whose jobs never are too many for the table
+pub record FitsTable (n : ℕ) (processes : List Process) (ahead : List Row) (frame : ℕ) : Type 0 where
+  pub few : n ≤ 12
+  pub short : frame ≤ 2000
+  pub good : (p : ℕ) → p < n → GoodProcess (processAt processes p)
+  pub room : (time : ℕ) → time ≤ frame → length (sequenceTo (take n processes) (rowRelation n ahead) time) ≤ 128
