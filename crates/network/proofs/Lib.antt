@@ -11,6 +11,7 @@ mod RowSteps
 mod Actions
 mod ActionLoop
 mod Laying
+mod PairMarks
 mod ProgramLoop
 mod WholeFile
 mod EntryPoints

@@ -15,6 +15,7 @@ pub mod Write
 pub mod Valid
 pub mod Opens
 pub mod Told
+pub mod AheadTold
 pub mod ProgramsTold
 pub mod ProgramLaws
 pub mod Laid

@@ -36,7 +36,7 @@ fn join_rows(rows: [Row; 12], n: usize, k: usize) -> [Row; 12]
 }
 
 // Where chains of steps lead, among the first n.
-fn lead(rows: [Row; 12], n: usize) -> [Row; 12]
+pub fn lead(rows: [Row; 12], n: usize) -> [Row; 12]
     requires { ⌜ n ≤ 12 ⌝ }
     ensures { λ r. ⌜ Leads n (λ a b. marked (getD rows a noMarks) b) n r ⌝ }
 {

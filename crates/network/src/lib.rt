@@ -1,4 +1,5 @@
-// The network file: a reader and a writer by one rule.
+// The network file: a reader and a writer by one rule. And of a network its frame's length, and which process comes before which.
+mod ahead;
 mod channels;
 mod cycles;
 mod frame;
@@ -9,6 +10,7 @@ mod programs;
 mod reading;
 mod writing;
 
+use marks::Row;
 use number::Number;
 use reply::Answer;
 use reply::Reply;
@@ -17,6 +19,9 @@ ghost use Prim.Native.Nat.{_≤_};
 ghost use lib.ListN.{length, replicate};
 ghost use lib.Seq.{sets};
 ghost use Rattle.reply.specs.Result.{answerOf};
+ghost use Rattle.network.specs.Frame.{frameLength};
+ghost use Rattle.network.specs.Net.{within};
+ghost use Rattle.network.specs.AheadTold.{AheadTold};
 ghost use Rattle.network.specs.Read.{load, readFile};
 ghost use Rattle.network.specs.Write.{wrote, wroteTo};
 
@@ -142,4 +147,22 @@ pub fn write(network: Network, out: &mut [u8]) -> Written
         answer,
         length: size,
     }
+}
+
+// The length of the frame of a network, 2001 if it is above 2000.
+pub fn frame_of(network: Network) -> u32
+    ensures { λ r. ⌜ r ≡ frameLength (within network .processes) ⌝ }
+{
+    let processes = network.processes;
+    frame::frame_of_count(processes, network.process_count)
+}
+
+// Which process comes before which: row a marks b where a chain of pairs leads from a to b.
+pub fn ahead_of(network: Network) -> [Row; 12]
+    ensures { λ r. ⌜ AheadTold network r ⌝ }
+{
+    let pairs = network.pairs;
+    let rows = ahead::rows_of_count(pairs, network.pair_count);
+    let n = writing::lesser(network.process_count, 12);
+    cycles::lead(rows, n)
 }

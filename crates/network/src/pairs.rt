@@ -73,7 +73,7 @@ pub fn no_pairs() -> [Pair; 66]
     }; 66]
 }
 
-fn no_rows() -> [Row; 12]
+pub fn no_rows() -> [Row; 12]
     ensures { λ r. ⌜ r ≡ replicate 12 noMarks ⌝ }
 {
     [Row { low: 0, high: 0 }; 12]

@@ -15,7 +15,7 @@ ghost use Rattle.network.specs.Write.{programFields};
 ghost use Rattle.network.specs.Laid.{Laid, Encoded};
 
 // A count above `most` counts all that there are.
-fn lesser(count: u32, most: usize) -> usize
+pub fn lesser(count: u32, most: usize) -> usize
     ensures { λ r. ⌜ r ≡ min count most ⌝ }
 {
     let n = count as usize;
