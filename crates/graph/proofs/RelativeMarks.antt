@@ -1,8 +1,8 @@
 -- Relatives: the test of two processes, the marks of one row so far, and the rows so far.
 use Prim.Native.Nat.{ℕ, _+_, _≤_, _<_}
-use mathlib.Core.Path.{_≡_, refl, sym, ap, ap₂, subst, _∙_}
+use mathlib.Core.Path.{_≡_, refl, sym, ap, subst, _∙_}
 use mathlib.Core.Logic.{_≢_}
-use mathlib.Core.Bool.{Bool, true, false, cond, _&&_, _||_}
+use mathlib.Core.Bool.{Bool, true, false, _&&_, _||_}
 use mathlib.Core.List.{List}
 use native.Mathlib.Decide.{ℕ-discrete}
 use native.Mathlib.Omega.{arith}
@@ -11,7 +11,7 @@ use lib.Seq.{getD-set-same, getD-set-other}
 use lib.Dec.{ltb, eqb}
 use borrow.Author.Tests.{lt-ltb, le-ltb, ltb-true, eq-eqb, ne-eqb}
 use Rattle.reply.specs.Tests.{split, same-test}
-use Rattle.marks.specs.Row.{marked, rowOf, noMarks, withOf}
+use Rattle.marks.specs.Row.{marked, noMarks, withOf}
 use Rattle.marks.specs.Laws.{marked-row, marked-none, fit-none, row-is, rows-same}
 use Rattle.marks.specs.declared.Row.{Row}
 use Rattle.graph.specs.PrecedenceTold.{isRelative, withRelative, relativesOf, RelativeRows}

@@ -1,5 +1,5 @@
 -- A network that was read: what its struct holds, and its frame's work, piece by piece.
-use Prim.Native.Nat.{ℕ, _≤_, _<_}
+use Prim.Native.Nat.{ℕ, _≤_, _<_, min}
 use mathlib.Core.Path.{_≡_, refl, sym, ap, subst, _∙_}
 use mathlib.Core.Bool.{Bool}
 use mathlib.Core.List.{List}
@@ -8,11 +8,13 @@ use lib.ListN.{length, getD, take}
 use Rattle.marks.specs.Row.{marked, noMarks}
 use Rattle.marks.specs.declared.Row.{Row}
 use Rattle.reply.specs.Result.{done}
+use Rattle.reply.specs.declared.Reply.the-variants.{Done}
 use Rattle.network.specs.Lists.{fillTo}
 use Rattle.network.specs.ListLaws.{take-fill, fill-at}
 use Rattle.network.specs.Chains.{Relation, holds, relation}
 use Rattle.network.specs.Frame.{noProcess, processAt, frameLength}
 use Rattle.network.specs.Pairs.{aheads}
+use Rattle.network.specs.AheadTold.{AheadTold}
 use Rattle.network.specs.Net.{Net, fill, within}
 use Rattle.network.specs.Valid.{Valid, GoodProcess}
 use Rattle.network.specs.declared.Process.{Process}
@@ -57,12 +59,18 @@ module _ {network : Network} (a : Accepted network) where
   process-is : (p : ℕ) → processAt (network .processes) p ≡ processAt (a .net .processes) p
   process-is p = ap (λ (l : List Process). getD l p noProcess) stored ∙ fill-at 12 noProcess (a .net .processes) p
 
-  module _ (ahead : List Row)
-      (told : (x y : ℕ) → x < network .«process_count» → y < network .«process_count»
-      → marked (getD ahead x noMarks) y ≡ holds (aheads (network .«process_count») (within network .pairs)) x y) where
+  counted : min (network .«process_count») 12 ≡ network .«process_count»
+  counted = omega (arith, few)
+
+  module _ (ahead : List Row) (told : AheadTold network ahead) where
+    marks-are : (x y : ℕ) → x < network .«process_count» → y < network .«process_count»
+        → marked (getD ahead x noMarks) y ≡ holds (aheads (network .«process_count») (within network .pairs)) x y
+    marks-are x y hx hy =
+        told .marks x y (omega (arith, counted)) (omega (arith, counted)) ∙ ap (λ (k : ℕ). holds (aheads k (within network .pairs)) x y) counted
+
     pub order-is : rowRelation (network .«process_count») ahead ≡ orderOf (a .net)
     order-is =
-        rows-before (network .«process_count») (within network .pairs) ahead told
+        rows-before (network .«process_count») (within network .pairs) ahead marks-are
         ∙ ap (λ (k : ℕ). comesBefore k (within network .pairs)) count-is
         ∙ ap (λ (net : Net). comesBefore (length (a .net .processes)) (net .pairs)) net-is
 
@@ -114,3 +122,11 @@ module _ {network : Network} (a : Accepted network) where
             → before ≡ fillTo 128 noMarks (rowsTo (jobCountOf (workOf (a .net))) (workOf (a .net) .before))
         before-is e =
             e ∙ rw (taken, order-is, table-count) (ap (λ (r : Relation). fillTo 128 noMarks (rowsTo (jobCountOf (workOf (a .net))) r)) (sym (work-before (a .net))))
+
+        -- all of it is the frame
+        pub whole : {before : List Row}
+            → before ≡ fillTo 128 noMarks (rowsTo (table .count) (relation (table .count) (precedesBy (rowRelation (network .«process_count») ahead) (take (table .count) (table .jobs)))))
+            → _≡_ {A = Framed}
+            (record { answer = record { reply = Done; place = 0 }; network = network; frame = frame; «job_count» = table .count; jobs = table .jobs; before = before })
+            (framedOf (done (workOf (within network))))
+        whole e = rw (net-is, frame-is, work-frame (a .net), work-net (a .net), before-is e, table-jobs, table-count, a .is) refl

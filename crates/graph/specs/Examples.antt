@@ -6,14 +6,14 @@ use lib.ListN.{take}
 use Rattle.graph.specs.Graph.{graphFile}
 use Rattle.graph.specs.Opens.{graph-definitions}
 use Rattle.graph.specs.declared.Job.{Job}
-use Rattle.graph.specs.declared.Graph.{Graph}
+use Rattle.graph.specs.declared.PrecedenceGraph.{PrecedenceGraph}
 
 K : List ℕ
 K =
     1 ∷ 3 ∷ 20 ∷ 1 ∷ 20 ∷ 3 ∷ 10 ∷ 1 ∷ 10 ∷ 4 ∷ 20 ∷ 1 ∷ 20 ∷ 6 ∷ 2 ∷ 0 ∷ 1 ∷ 1 ∷ 2 ∷ 2 ∷ 0 ∷ 0 ∷ 1 ∷ 2 ∷ 1 ∷ 1 ∷ 2 ∷ 1 ∷ 3 ∷ 5 ∷ 0 ∷ 1 ∷ 0 ∷ 7 ∷ 1 ∷ 1 ∷ 0 ∷ 4 ∷ 0 ∷ 0 ∷ 0 ∷ 3 ∷ 3 ∷ 0 ∷ 0 ∷ 1 ∷ 7 ∷ 1 ∷ 1 ∷ 0 ∷ 4 ∷ 1 ∷ 0 ∷ 0 ∷ 3 ∷ 3 ∷ 1 ∷ 0 ∷ 1 ∷ 7 ∷ 1 ∷ 1 ∷ 0 ∷ 6 ∷ 0 ∷ 0 ∷ 0 ∷ []
 
 -- jobs, frame length, edges
-abbrev sizes : Graph → ℕ × ℕ × ℕ
+abbrev sizes : PrecedenceGraph → ℕ × ℕ × ℕ
 sizes g = (g .«job_count», g .frame, g .edges)
 
 k-sizes : sizes (graphFile K) ≡ (4, 20, 3)

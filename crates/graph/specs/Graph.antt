@@ -14,7 +14,7 @@ use Rattle.network.specs.Net.{fill, noNetwork}
 use Rattle.graph.specs.Sequence.{noJob}
 use Rattle.graph.specs.Work.{Work, jobCountOf, precedes, loadWork}
 use Rattle.graph.specs.declared.Framed.{Framed}
-use Rattle.graph.specs.declared.Graph.{Graph}
+use Rattle.graph.specs.declared.PrecedenceGraph.{PrecedenceGraph}
 
 -- a path from job to job
 abbrev pub Path : Work → ℕ → ℕ → Type 0
@@ -69,7 +69,7 @@ framedOf r = record {
 unfoldable pub frameFile : List ℕ → Framed
 frameFile file = framedOf (loadWork file)
 
-abbrev pub graphOf : Result Work → Graph
+abbrev pub graphOf : Result Work → PrecedenceGraph
 graphOf r = record {
   answer = answerOf r;
   «job_count» = orZero 0 jobCountOf r;
@@ -79,5 +79,5 @@ graphOf r = record {
   rows = orZero (replicate 128 noMarks) (λ (w : Work). fillTo 128 noMarks (rowsFrom (jobCountOf w) (reduction w))) r;
 }
 
-unfoldable pub graphFile : List ℕ → Graph
+unfoldable pub graphFile : List ℕ → PrecedenceGraph
 graphFile file = graphOf (loadWork file)

@@ -20,3 +20,4 @@ pub mod ReductionLaws
 pub mod GraphLaws
 pub mod FrameTold
 pub mod EntryLaws
+pub mod FileLaws

@@ -8,11 +8,8 @@ use network::Network;
 use reply::Answer;
 use reply::Reply;
 ghost use mathlib.Core.Path.{_≡_};
-ghost use lib.ListN.{replicate};
 ghost use Rattle.reply.specs.Result.{done};
-ghost use Rattle.marks.specs.Row.{noMarks};
 ghost use Rattle.network.specs.Net.{within};
-ghost use Rattle.graph.specs.Sequence.{noJob};
 ghost use Rattle.graph.specs.Work.{workOf};
 ghost use Rattle.graph.specs.Graph.{framedOf, frameFile, graphFile};
 ghost use Rattle.graph.specs.FrameTold.{Accepted};
@@ -36,7 +33,7 @@ pub struct Framed {
 }
 
 // The published graph. Row i of `rows` marks each job that an edge leads to from job i. All zero when the file is refused.
-pub struct Graph {
+pub struct PrecedenceGraph {
     pub answer: Answer,
     pub job_count: u32,
     pub frame: u32,
@@ -45,19 +42,71 @@ pub struct Graph {
     pub rows: [Row; 128],
 }
 
-fn no_jobs() -> [Job; 128]
-    ensures { λ r. ⌜ r ≡ replicate 128 noJob ⌝ }
+// The frame of a network that was read.
+fn frame_work(network: Network) -> Framed
+    requires { ⌜ Accepted network ⌝ }
+    ensures { λ r. ⌜ r ≡ framedOf (done (workOf (within network))) ⌝ }
 {
-    [Job {
-        process: 0,
-        release: 0,
-        deadline: 0,
-        budget: 0,
-    }; 128]
+    let ahead = network::ahead_of(network);
+    let frame = network::frame_of(network);
+    let n = network.process_count as usize;
+    let processes = network.processes;
+    let table = sequence::sequence(processes, n, ahead, frame);
+    let jobs = table.jobs;
+    let count = table.count;
+    let before = precedence::before_rows(jobs, count, ahead, n);
+    Framed {
+        answer: Answer {
+            reply: Reply::Done,
+            place: 0,
+        },
+        network,
+        frame,
+        job_count: count as u32,
+        jobs,
+        before,
+    }
 }
 
-fn no_rows() -> [Row; 128]
-    ensures { λ r. ⌜ r ≡ replicate 128 noMarks ⌝ }
+// The frame of a file: its network, its jobs in sequence, and which precede each.
+pub fn frame(file: &[u8]) -> Framed
+    ensures { λ r. ⌜ r ≡ frameFile (now (file .entry)) ⌝ }
 {
-    [Row { low: 0, high: 0 }; 128]
+    let loaded = network::read(file);
+    let answer = loaded.answer;
+    let network = loaded.network;
+    let reply = answer.reply;
+    if reply::number(reply) == 0 {
+        return frame_work(network);
+    }
+    let jobs = sequence::no_jobs();
+    let before = reduction::no_rows();
+    Framed {
+        answer,
+        network,
+        frame: 0,
+        job_count: 0,
+        jobs,
+        before,
+    }
+}
+
+// The precedence graph of a file: its jobs, and the edges that stay.
+pub fn graph(file: &[u8]) -> PrecedenceGraph
+    ensures { λ r. ⌜ r ≡ graphFile (now (file .entry)) ⌝ }
+{
+    let framed = frame(file);
+    let answer = framed.answer;
+    let jobs = framed.jobs;
+    let before = framed.before;
+    let reduced = reduction::reduce(before, framed.job_count as usize);
+    let rows = reduced.rows;
+    PrecedenceGraph {
+        answer,
+        job_count: framed.job_count,
+        frame: framed.frame,
+        edges: reduced.edges,
+        jobs,
+        rows,
+    }
 }

@@ -1,6 +1,7 @@
 // The predecessor rows of a job table: row j marks every job that precedes job j. Built from whole rows: for each process
 // the row of its jobs so far, which is joined to the rows of later jobs of the process and of its relatives.
 use crate::Job;
+use crate::reduction;
 use marks::Row;
 ghost use mathlib.Core.Path.{_≡_};
 ghost use Prim.Native.Nat.{_≤_, _<_};
@@ -102,12 +103,6 @@ fn none_passed() -> [Row; 12]
     [Row { low: 0, high: 0 }; 12]
 }
 
-fn no_rows() -> [Row; 128]
-    ensures { λ r. ⌜ r ≡ replicate 128 noMarks ⌝ }
-{
-    [Row { low: 0, high: 0 }; 128]
-}
-
 // Row j marks the jobs before j of j's process and of the processes related to it, by the rows `ahead` of n processes.
 pub fn before_rows(jobs: [Job; 128], count: usize, ahead: [Row; 12], n: usize) -> [Row; 128]
     requires { ⌜ JobsTold n count jobs ⌝ }
@@ -115,7 +110,7 @@ pub fn before_rows(jobs: [Job; 128], count: usize, ahead: [Row; 12], n: usize) -
 {
     let relatives = relative_rows(ahead, n);
     let mut passed = none_passed();
-    let mut rows = no_rows();
+    let mut rows = reduction::no_rows();
     let mut j = 0usize;
     while j < count {
         let job = jobs[j];

@@ -14,7 +14,7 @@ pub struct Reduced {
     pub edges: u32,
 }
 
-fn no_rows() -> [Row; 128]
+pub fn no_rows() -> [Row; 128]
     ensures { λ r. ⌜ r ≡ replicate 128 noMarks ⌝ }
 {
     let none = Row { low: 0, high: 0 };

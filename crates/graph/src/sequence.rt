@@ -26,7 +26,7 @@ pub struct Released {
     pub counts: [u32; 12],
 }
 
-fn no_jobs() -> [Job; 128]
+pub fn no_jobs() -> [Job; 128]
     ensures { λ r. ⌜ r ≡ replicate 128 noJob ⌝ }
 {
     [Job {
