@@ -20,7 +20,7 @@ use Rattle.roundtrip.specs.Promise.{read-valid, within-fill}
 use Rattle.graph.specs.Sequence.{noJob}
 use Rattle.graph.specs.Work.{workOf, loadWork}
 use Rattle.graph.specs.Graph.{rowsFrom, edgesOf, framedOf, frameFile, graphOf, graphFile}
-use Rattle.graph.specs.WorkLaws.{goes-forward}
+use Rattle.graph.specs.GraphLaws.{work-forward}
 use Rattle.graph.specs.ReductionTold.{Earlier, ReducedTo}
 use Rattle.graph.specs.ReductionLaws.{rows-earlier, work-reduced}
 use Rattle.graph.specs.Promise.{jobs-are}
@@ -68,8 +68,7 @@ graphBy r = graphOf (andThen r λ net. done (workOf net))
 forward-by : (r : Result Net) → ((net : Net) → r ≡ done net → Valid net) → (framedBy r .«job_count» ≤ 128) × Earlier (framedBy r .«job_count») (framedBy r .before)
 forward-by (done net) v =
     let most = jobs-are net (v net refl) .most in
-    let onward = goes-forward net (v net refl) in
-    (most, rows-earlier _ _ most (record { within = onward .within; onward = onward .forward }))
+    (most, rows-earlier _ _ most (work-forward net))
 forward-by (refused reply place) v = (omega arith, record { earlier = λ i j h t. absurd (omega arith) })
 
 pub frame-forward : (file : List ℕ) → (frameFile file .«job_count» ≤ 128) × Earlier (frameFile file .«job_count») (frameFile file .before)
