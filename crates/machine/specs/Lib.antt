@@ -1,0 +1,6 @@
+pub mod State
+pub mod Actions
+pub mod ActionLaws
+pub mod WholeJob
+pub mod ChannelTold
+pub mod ChannelLaws
