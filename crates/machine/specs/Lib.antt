@@ -4,3 +4,5 @@ pub mod ActionLaws
 pub mod WholeJob
 pub mod ChannelTold
 pub mod ChannelLaws
+pub mod Words
+pub mod WordLaws

@@ -1,6 +1,7 @@
 // What both runs are built from: the actions of a process, and what they do to its variables and its channels.
 mod actions;
 mod channels;
+mod words;
 
 // One action. Operands name variables 0 to 7 of the process, a channel, a number, or how many actions to skip.
 pub enum Action {

@@ -1,0 +1,105 @@
+-- A channel stored is there when it is loaded, and no other channel is touched.
+use Prim.Native.Nat.{ℕ, zero, suc, _+_, _*_, _≤_, _<_}
+use mathlib.Core.Path.{_≡_, refl, sym, ap, _∙_}
+use mathlib.Core.Logic.{_≢_, _⊎_, inl, inr}
+use mathlib.Core.List.{List, [], _∷_, _++_}
+use native.Mathlib.Decide.{decLt}
+use native.Mathlib.Nat.{add-zero, add-suc, suc-add}
+use native.Mathlib.Numerals.{unary-clauses}
+use native.Mathlib.Omega.{arith}
+use lib.ListN.{length, getD, set, length-set, length-append, List·getD-append}
+use lib.Seq.{sets, ext-getD, getD-set-same, getD-set-other, getD-append-add}
+use Rattle.network.specs.Lists.{table}
+use Rattle.network.specs.ListLaws.{length-table, getD-table}
+use Rattle.network.specs.ChainsSame.{table-same}
+use Rattle.machine.specs.ChannelTold.{Sound}
+use Rattle.machine.specs.Words.{channelAt, numbersOf, stored, channelFrom, storedFrom}
+use Rattle.machine.specs.declared.Channel.{Channel}
+
+-- ---- runs of numbers
+
+sets-outside : (vs l : List ℕ) (i j : ℕ) → (j < i) ⊎ (i + length vs ≤ j) → getD (sets l i vs) j 0 ≡ getD l j 0
+sets-outside [] l i j h = refl
+sets-outside (v ∷ vs) l i j (inl h) = sets-outside vs (set l i v) (suc i) j (inl (omega arith)) ∙ getD-set-other l i j v 0 (λ e. omega arith)
+sets-outside (v ∷ vs) l i j (inr h) = sets-outside vs (set l i v) (suc i) j (inr (omega arith)) ∙ getD-set-other l i j v 0 (λ e. omega arith)
+
+sets-inside : (vs l : List ℕ) (i k : ℕ) → i + length vs ≤ length l → k < length vs → getD (sets l i vs) (i + k) 0 ≡ getD vs k 0
+sets-inside [] l i k h b = absurd (omega arith)
+sets-inside (v ∷ vs) l i zero h b = rw (add-zero i) (sets-outside vs (set l i v) (suc i) i (inl (omega arith)) ∙ getD-set-same l i v 0 (omega arith))
+sets-inside (v ∷ vs) l i (suc k) h b = rw (add-suc i k, ← suc-add i k) (sets-inside vs (set l i v) (suc i) k (omega (arith, length-set l i v)) (omega arith))
+
+-- ---- number by number
+
+pub loaded-is : (words : List ℕ) (i : ℕ) → channelFrom words (i * 12) ≡ channelAt words i
+unfolding channelAt table
+loaded-is words i = rw (add-zero (i * 12))
+
+table-list : (l : List ℕ) (n : ℕ) → length l ≡ n → table n (λ k. getD l k 0) ≡ l
+table-list l n e =
+    ext-getD 0 (table n (λ k. getD l k 0)) l (length-table n _ ∙ sym e) (λ i h. getD-table n _ i 0 (omega (arith, length-table n (λ k. getD l k 0))))
+
+-- a channel's numbers, the values one by one
+abbrev oneByOne : Channel → List ℕ
+oneByOne c =
+    getD (c .values) 0 0 ∷ getD (c .values) 1 0 ∷ getD (c .values) 2 0 ∷ getD (c .values) 3 0
+    ∷ getD (c .values) 4 0 ∷ getD (c .values) 5 0 ∷ getD (c .values) 6 0 ∷ getD (c .values) 7 0
+    ∷ c .head ∷ c .length ∷ c .loss ∷ []
+
+nested : (words : List ℕ) (at : ℕ) (c : Channel) → storedFrom words at c ≡ sets words at (oneByOne c)
+nested words at c =
+    let nine : at + 9 ≡ suc (at + 8) = omega arith in
+    let ten : at + 10 ≡ suc (suc (at + 8)) = omega arith in
+    simp (nine, ten, unary-clauses)
+
+pub stored-is : (words : List ℕ) (i : ℕ) (c : Channel) → Sound c → storedFrom words (i * 12) c ≡ stored words i c
+unfolding stored table
+stored-is words i c s =
+    nested words (i * 12) c
+    ∙ ap (λ (vs : List ℕ). sets words (i * 12) (vs ++ (c .head ∷ c .length ∷ c .loss ∷ []))) (table-list (c .values) 8 (s .places))
+
+-- ---- what is loaded after a store
+
+module _ (words : List ℕ) (size : length words ≡ 192) (i : ℕ) (c : Channel) (h : i < 16) (s : Sound c) where
+  eleven : length (numbersOf c) ≡ 11
+  eleven = length-append (c .values) _ ∙ rw (s .places)
+
+  there : (k : ℕ) → k < 11 → getD (stored words i c) (i * 12 + k) 0 ≡ getD (numbersOf c) k 0
+  unfolding stored
+  there k l = sets-inside (numbersOf c) words (i * 12) k (omega (arith, eleven)) (omega (arith, eleven))
+
+  in-values : (k : ℕ) → k < 8 → getD (numbersOf c) k 0 ≡ getD (c .values) k 0
+  in-values k l = List·getD-append (c .values) (c .head ∷ c .length ∷ c .loss ∷ []) 0 k (omega (arith, s .places))
+
+  past-values : (k : ℕ) → getD (numbersOf c) (8 + k) 0 ≡ getD (c .head ∷ c .length ∷ c .loss ∷ []) k 0
+  past-values k = ap (λ (n : ℕ). getD (numbersOf c) (n + k) 0) (sym (s .places)) ∙ getD-append-add (c .values) (c .head ∷ c .length ∷ c .loss ∷ []) k 0
+
+  pub stored-same : channelAt (stored words i c) i ≡ c
+  unfolding channelAt
+  stored-same =
+      rw (
+        table-same 8 (λ k. getD (stored words i c) (i * 12 + k) 0) (λ k. getD (c .values) k 0) (λ k l. there k (omega arith) ∙ in-values k l),
+        table-list (c .values) 8 (s .places),
+        there 8 (omega arith),
+        past-values 0,
+        there 9 (omega arith),
+        past-values 1,
+        there 10 (omega arith),
+        past-values 2,
+      )
+
+  elsewhere : (j k : ℕ) → i ≢ j → k < 12 → getD (stored words i c) (j * 12 + k) 0 ≡ getD words (j * 12 + k) 0
+  unfolding stored
+  elsewhere j k d l = sets-outside (numbersOf c) words (i * 12) (j * 12 + k) (elim (decLt i j) [
+    | yes b ↦ inr (omega (arith, eleven))
+    | no b ↦ inl (omega arith)
+  ])
+
+  pub stored-other : (j : ℕ) → i ≢ j → channelAt (stored words i c) j ≡ channelAt words j
+  unfolding channelAt
+  stored-other j d =
+      rw (
+        table-same 8 (λ k. getD (stored words i c) (j * 12 + k) 0) (λ k. getD words (j * 12 + k) 0) (λ k l. elsewhere j k d (omega arith)),
+        elsewhere j 8 d (omega arith),
+        elsewhere j 9 d (omega arith),
+        elsewhere j 10 d (omega arith),
+      )
