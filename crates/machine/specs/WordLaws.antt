@@ -1,20 +1,22 @@
 -- A channel stored is there when it is loaded, and no other channel is touched.
 use Prim.Native.Nat.{ℕ, zero, suc, _+_, _*_, _≤_, _<_}
-use mathlib.Core.Path.{_≡_, refl, sym, ap, _∙_}
+use mathlib.Core.Path.{_≡_, refl, sym, ap, subst, _∙_}
 use mathlib.Core.Logic.{_≢_, _⊎_, inl, inr}
 use mathlib.Core.List.{List, [], _∷_, _++_}
-use native.Mathlib.Decide.{decLt}
+use native.Mathlib.Decide.{decLt, ℕ-discrete}
 use native.Mathlib.Nat.{add-zero, add-suc, suc-add}
 use native.Mathlib.Numerals.{unary-clauses}
 use native.Mathlib.Omega.{arith}
 use lib.ListN.{length, getD, set, length-set, length-append, List·getD-append}
-use lib.Seq.{sets, ext-getD, getD-set-same, getD-set-other, getD-append-add}
+use lib.Seq.{sets, length-sets, ext-getD, getD-set-same, getD-set-other, getD-append-add}
 use Rattle.network.specs.Lists.{table}
 use Rattle.network.specs.ListLaws.{length-table, getD-table}
 use Rattle.network.specs.ChainsSame.{table-same}
-use Rattle.machine.specs.ChannelTold.{Sound}
-use Rattle.machine.specs.Words.{channelAt, numbersOf, stored, channelFrom, storedFrom}
+use Rattle.machine.specs.State.{Contents, nothing}
+use Rattle.machine.specs.ChannelTold.{Sound, contentsBy, TakenFrom, PutInto}
+use Rattle.machine.specs.Words.{channelAt, numbersOf, stored, channelFrom, storedFrom, contentsIn, SoundWords, ReadFrom, WrittenTo}
 use Rattle.machine.specs.declared.Channel.{Channel}
+use Rattle.machine.specs.declared.channels.Taken.{Taken}
 
 -- ---- runs of numbers
 
@@ -103,3 +105,52 @@ module _ (words : List ℕ) (size : length words ≡ 192) (i : ℕ) (c : Channel
         elsewhere j 9 d (omega arith),
         elsewhere j 10 d (omega arith),
       )
+
+  -- it is sound again
+  pub stored-sound : SoundWords words → SoundWords (stored words i c)
+  unfolding stored
+  stored-sound w = record {
+    size = length-sets words (i * 12) (numbersOf c) ∙ size;
+    sound = λ j l. elim (ℕ-discrete i j) [
+      | yes e ↦ subst (λ k. Sound (channelAt (stored words i c) k)) e (subst Sound (sym stored-same) s)
+      | no d ↦ subst Sound (sym (stored-other j d)) (w .sound j l)
+    ];
+  }
+
+  -- of what the channels hold, only what this one holds is new
+  pub stored-contents : contentsIn (stored words i c) ≡ set (contentsIn words) i (contentsBy c)
+  unfolding contentsIn
+  stored-contents =
+      let f : ℕ → Contents = λ j. contentsBy (channelAt words j) in
+      let g : ℕ → Contents = λ j. contentsBy (channelAt (stored words i c) j) in
+      ext-getD nothing (table 16 g) (set (table 16 f) i (contentsBy c)) (length-table 16 g ∙ sym (length-set (table 16 f) i (contentsBy c) ∙ length-table 16 f)) λ j l.
+      let b : j < 16 = omega (arith, length-table 16 g) in
+      getD-table 16 g j nothing b
+      ∙ elim (ℕ-discrete i j) [
+        | yes e ↦ subst (λ k. contentsBy (channelAt (stored words i c) k) ≡ getD (set (table 16 f) i (contentsBy c)) k nothing) e
+            (ap contentsBy stored-same ∙ sym (getD-set-same (table 16 f) i (contentsBy c) nothing (omega (arith, length-table 16 f))))
+        | no d ↦ ap contentsBy (stored-other j d) ∙ sym (getD-set-other (table 16 f) i j (contentsBy c) nothing (λ e. d (sym e)) ∙ getD-table 16 f j nothing b)
+      ]
+
+pub contents-at : (words : List ℕ) (i : ℕ) → i < 16 → getD (contentsIn words) i nothing ≡ contentsBy (channelAt words i)
+unfolding contentsIn
+contents-at words i h = getD-table 16 _ i nothing h
+
+-- ---- the calls
+
+module _ (words : List ℕ) (i : ℕ) (h : i < 16) (w : SoundWords words) where
+  pub read-from : (kind : ℕ) (t : Taken) → TakenFrom (channelAt words i) kind t
+      → ReadFrom i kind words (stored words i (t .channel)) (record { value = t .value; flag = t .flag })
+  read-from kind t r = record {
+    sound = stored-sound words (w .size) i (t .channel) h (r .sound) w;
+    contents = stored-contents words (w .size) i (t .channel) h (r .sound) ∙ rw (contents-at words i h, r .contents);
+    value = rw (contents-at words i h) (r .value);
+    flag = rw (contents-at words i h) (r .flag);
+  }
+
+  pub written-to : (kind capacity value : ℕ) (c : Channel) → PutInto (channelAt words i) kind capacity value c
+      → WrittenTo i kind capacity value words (stored words i c)
+  written-to kind capacity value c r = record {
+    sound = stored-sound words (w .size) i c h (r .sound) w;
+    contents = stored-contents words (w .size) i c h (r .sound) ∙ rw (contents-at words i h, r .contents);
+  }

@@ -1,9 +1,18 @@
 // Channels in a lent array of numbers, twelve for each.
 use crate::Channel;
+use crate::channels;
 ghost use mathlib.Core.Path.{_≡_};
 ghost use Prim.Native.Nat.{_≤_, _<_};
+ghost use lib.ListN.{getD};
+ghost use Rattle.machine.specs.State.{nothing};
 ghost use Rattle.machine.specs.ChannelTold.{Sound};
-ghost use Rattle.machine.specs.Words.{channelFrom, channelAt, storedFrom, stored};
+ghost use Rattle.machine.specs.Words.{channelFrom, channelAt, storedFrom, stored, contentsIn, SoundWords, ReadFrom, WrittenTo};
+
+// What a read gives: with nothing there both are 0.
+pub struct Value {
+    pub value: u32,
+    pub flag: u32,
+}
 
 // The channel at a place.
 fn load_from(words: &[u32; 192], at: usize) -> Channel
@@ -60,4 +69,29 @@ pub fn store(words: &mut [u32; 192], i: usize, channel: Channel)
     ensures { λ _. ⌜ now (words .exit) ≡ stored (now (words .entry)) i channel ⌝ }
 {
     store_from(words, i * 12, channel);
+}
+
+// Reads channel i.
+pub fn read(words: &mut [u32; 192], i: usize, kind: u32) -> Value
+    requires { ⌜ (i < 16) × SoundWords (now words) ⌝ }
+    ensures { λ r. ⌜ ReadFrom i kind (now (words .entry)) (now (words .exit)) r ⌝ }
+{
+    let channel = load(words, i);
+    let taken = channels::take(channel, kind);
+    let left = taken.channel;
+    store(words, i, left);
+    Value {
+        value: taken.value,
+        flag: taken.flag,
+    }
+}
+
+// Writes a value into channel i.
+pub fn write(words: &mut [u32; 192], i: usize, kind: u32, capacity: u32, value: u32)
+    requires { ⌜ (i < 16) × SoundWords (now words) × (capacity ≤ 8) × (getD (contentsIn (now words)) i nothing .loss < 4294967295) ⌝ }
+    ensures { λ _. ⌜ WrittenTo i kind capacity value (now (words .entry)) (now (words .exit)) ⌝ }
+{
+    let channel = load(words, i);
+    let after = channels::put(channel, kind, capacity, value);
+    store(words, i, after);
 }
