@@ -1,1 +1,1 @@
-// The starred cases of document 01 stand in specs/Starred.antt; this crate has no code.
+// The starred cases of the rules stand in specs/Starred.antt; this crate has no code.
