@@ -8,20 +8,17 @@ use Rattle.network.specs.Net.{Net}
 use Rattle.machine.specs.State.{State}
 use Rattle.machine.specs.Actions.{decode, effect, outputAfter, skipped}
 use Rattle.machine.specs.declared.Sample.{Sample}
+use Rattle.machine.specs.declared.Under.{Under}
 use Rattle.machine.specs.declared.Action.{Action}
 use Rattle.machine.specs.declared.Action.the-variants.{Unknown}
 
 abbrev pub programOf : Net → ℕ → List Action
 programOf net p = map decode (getD (net .programs) p [])
 
--- what a job under way keeps for itself: the number of the next action, and what it has output
-pub record Under : Type 0 where
-  pub at : ℕ
-  pub output : Sample
-
 abbrev pub blank : Sample
 blank = record { present = 0; value = 0 }
 
+-- what a job under way keeps for itself, at its start: the number of its next action, and what it has output
 abbrev pub started : Under
 started = record { at = 0; output = blank }
 

@@ -1,6 +1,8 @@
-// Which action four numbers say.
+// Which action four numbers say, and which is the next of a program.
 use crate::Action;
 ghost use mathlib.Core.Path.{_≡_};
+ghost use Prim.Native.Nat.{_<_};
+ghost use Rattle.network.specs.Net.{fourAt};
 ghost use Rattle.network.specs.declared.Four.{Four};
 ghost use Rattle.machine.specs.Actions.{decode};
 
@@ -18,4 +20,13 @@ pub fn decode(head: u32, a: u32, b: u32, c: u32) -> Action
         7 => Action::Skip { a, n: b },
         _ => Action::Unknown,
     }
+}
+
+// Action `at` of process p.
+pub fn fetch(program: &[u32; 1152], p: usize, at: usize) -> Action
+    requires { ⌜ (p < 12) × (at < 24) ⌝ }
+    ensures { λ r. ⌜ r ≡ decode (fourAt (now (program .entry)) p at) ⌝ }
+{
+    let i = 96 * p + 4 * at;
+    decode(program[i], program[i + 1], program[i + 2], program[i + 3])
 }

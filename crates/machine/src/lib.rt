@@ -1,7 +1,13 @@
 // What both runs are built from: the actions of a process, and what they do to its variables and its channels.
 mod actions;
 mod channels;
+mod transfers;
+mod variables;
 mod words;
+
+ghost use mathlib.Core.Path.{_≡_};
+ghost use Rattle.machine.specs.Acting.{Able, Acted};
+ghost use Rattle.machine.specs.Jobs.{Runs, JobDone};
 
 // One action. Operands name variables 0 to 7 of the process, a channel, a number, or how many actions to skip.
 pub enum Action {
@@ -28,4 +34,94 @@ pub struct Channel {
     pub head: u32,
     pub length: u32,
     pub loss: u32,
+}
+
+// What a job under way keeps for itself: the number of its next action, and what it has output so far.
+pub struct Under {
+    pub at: usize,
+    pub output: Sample,
+}
+
+// What a run returns of a channel: how many values it holds, the values, oldest first and zeros after them, and the loss count.
+pub struct Held {
+    pub number: u32,
+    pub values: [u32; 8],
+    pub loss: u32,
+}
+
+// One action of a job of process p that is under way.
+pub fn act(
+    action: Action,
+    p: usize,
+    under: Under,
+    input: Sample,
+    kinds: &[u32; 32],
+    variables: &mut [u32; 96],
+    words: &mut [u32; 192],
+) -> Under
+    requires { ⌜ Able action p under (now kinds) (now words) ⌝ }
+    ensures { λ r. ⌜ Acted action p under input (now (kinds .entry)) (now (variables .entry)) (now (words .entry)) (now (variables .exit)) (now (words .exit)) r ⌝ }
+{
+    let at = under.at + 1;
+    let output = under.output;
+    match action {
+        Action::Set { a, number } => variables::set(variables, p, a, number),
+        Action::Add { a, b, c } => variables::add(variables, p, a, b, c),
+        Action::Subtract { a, b, c } => variables::subtract(variables, p, a, b, c),
+        Action::Read { channel, b, c } => transfers::read(
+            channel,
+            b,
+            c,
+            p,
+            kinds,
+            variables,
+            words,
+        ),
+        Action::Write { channel, b } => transfers::write(channel, b, p, kinds, variables, words),
+        Action::Input { a, b } => transfers::input(input, a, b, p, variables),
+        Action::Output { a } => {
+            let value = variables::get(variables, p, a);
+            return Under {
+                at,
+                output: Sample { present: 1, value },
+            };
+        }
+        Action::Skip { a, n } => {
+            if variables::get(variables, p, a) == 0 {
+                return Under {
+                    at: at + n as usize,
+                    output,
+                };
+            }
+        }
+        Action::Unknown => {}
+    }
+    Under { at, output }
+}
+
+// A whole job of process p, whose program has so many actions: what it outputs.
+pub fn job(
+    program: &[u32; 1152],
+    p: usize,
+    count: usize,
+    input: Sample,
+    kinds: &[u32; 32],
+    variables: &mut [u32; 96],
+    words: &mut [u32; 192],
+) -> Sample
+    requires { ⌜ Runs (now program) p count (now kinds) (now words) ⌝ }
+    ensures { λ r. ⌜ JobDone (now (program .entry)) p count input (now (kinds .entry)) (now (variables .entry)) (now (words .entry)) (now (variables .exit)) (now (words .exit)) r ⌝ }
+{
+    let mut under = Under {
+        at: 0,
+        output: Sample {
+            present: 0,
+            value: 0,
+        },
+    };
+    while under.at < count {
+        let action = actions::fetch(program, p, under.at);
+        under = act(action, p, under, input, kinds, variables, words);
+    }
+    under.output
 }

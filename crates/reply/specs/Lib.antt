@@ -1,5 +1,6 @@
 pub mod Reply
 pub mod Result
+pub mod Call
 pub mod ResultLaws
 pub mod Tools
 pub mod Tests

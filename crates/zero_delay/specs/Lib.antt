@@ -1,0 +1,4 @@
+pub mod ZeroDelay
+pub mod Opens
+pub mod Examples
+pub mod RunLaws
