@@ -9,7 +9,7 @@ use Rattle.machine.specs.State.{State, nothing}
 use Rattle.machine.specs.Actions.{decode, effect, outputAfter, skipped}
 use Rattle.machine.specs.WholeJob.{started, actState, actUnder, nextAction, Did, goOn, wholeJob}
 use Rattle.machine.specs.JobLaws.{go-on-step, go-on-end}
-use Rattle.machine.specs.Losses.{action-loss}
+use Rattle.machine.specs.Ledger.{action-loss}
 use Rattle.machine.specs.Words.{contentsIn, stateBy, SoundWords}
 use Rattle.machine.specs.Acting.{Operands, KindsOf, Room, Able, Acted}
 use Rattle.machine.specs.Jobs.{ProgramIs, Runs, JobDone}
@@ -50,7 +50,7 @@ module _ {program : List ℕ} {p count : ℕ} {x : Sample} {kinds variables₀ w
         loss : (c : ℕ) → getD (contentsIn words′) c nothing .loss ≤ getD (contentsIn words) c nothing .loss + 1
         loss c =
             let e = acted .state (runs .net) (runs .kinds-are) in
-            rw (ap (λ (s : State). getD (s .channels) c nothing .loss) e) (action-loss (runs .net) p x c action (stateBy variables words))
+            rw (ap (λ (s : State). getD (s .channels) c nothing .loss) e) (action-loss (runs .net) p x action (stateBy variables words) c)
 
         module _ (net : Net) (t : ProgramIs net program p count) (k : KindsOf net kinds) where
           which : action ≡ nextAction net p u

@@ -1,1 +1,2 @@
 mod JobLoop
+mod SampleLoop

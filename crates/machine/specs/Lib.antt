@@ -3,9 +3,10 @@ pub mod Actions
 pub mod ActionLaws
 pub mod WholeJob
 pub mod JobLaws
-pub mod Losses
 pub mod Samples
 pub mod HeldOf
+pub mod Ledger
+pub mod EmptyRead
 pub mod ChannelTold
 pub mod ChannelLaws
 pub mod Words

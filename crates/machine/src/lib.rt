@@ -1,6 +1,7 @@
 // What both runs are built from: the actions of a process, and what they do to its variables and its channels.
 mod actions;
 mod channels;
+pub mod samples;
 mod transfers;
 mod variables;
 mod words;

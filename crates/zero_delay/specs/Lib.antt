@@ -2,3 +2,5 @@ pub mod ZeroDelay
 pub mod Opens
 pub mod Examples
 pub mod RunLaws
+pub mod Lent
+pub mod Promise

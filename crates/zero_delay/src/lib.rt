@@ -1,4 +1,6 @@
 // The zero-delay run: a network's jobs one after another.
+mod frames;
+
 use machine::Held;
 use reply::Answer;
 
