@@ -1,2 +1,4 @@
 mod JobLoop
 mod SampleLoop
+mod KindsLoop
+mod HeldLoops

@@ -3,7 +3,7 @@ use Prim.Native.Nat.{ℕ, _+_, _*_, _≤_, _<_, _^_}
 use mathlib.Core.Path.{_≡_}
 use mathlib.Core.List.{List}
 use lib.ListN.{length, getD}
-use Rattle.network.specs.Net.{Net}
+use Rattle.network.specs.Net.{Net, noChannel}
 use Rattle.network.specs.declared.Channel.{Channel}
 use Rattle.machine.specs.State.{nothing}
 use Rattle.machine.specs.Actions.{channelOf, effect, outputAfter, skipped}
@@ -29,6 +29,12 @@ Operands Unknown = Unit {0}
 pub record KindsOf (net : Net) (kinds : List ℕ) : Type 0 where
   pub kind : (c : ℕ) → getD kinds (2 * c) 0 ≡ channelOf net c .kind
   pub capacity : (c : ℕ) → getD kinds (2 * c + 1) 0 ≡ channelOf net c .capacity
+
+-- the table of kinds that a struct's channels make
+pub record KindsTold (channels : List Channel) (kinds : List ℕ) : Type 0 where
+  pub size : length kinds ≡ 32
+  pub kind : (c : ℕ) → c < 16 → getD kinds (2 * c) 0 ≡ getD channels c noChannel .kind
+  pub capacity : (c : ℕ) → c < 16 → getD kinds (2 * c + 1) 0 ≡ getD channels c noChannel .capacity
 
 -- no capacity is above eight
 pub record Capacities (kinds : List ℕ) : Type 0 where

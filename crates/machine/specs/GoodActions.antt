@@ -59,15 +59,16 @@ module _ (channels : List Channel) (p n k : ℕ) where
   operands-in c h (Skip a m) g = (g .0, omega arith)
   operands-in c h Unknown g = tt
 
+-- action k of a program, from its four numbers
+pub decoded-at : (program : List Four) (k : ℕ) → k < length program → getD (map decode program) k Unknown ≡ decode (getD program k noFour)
+decoded-at [] k h = absurd (omega arith)
+decoded-at (f ∷ program) zero h = refl
+decoded-at (f ∷ program) (suc k) h = decoded-at program k (omega arith)
+
 -- each action of a valid network is good
 pub net-good : (net : Net) → Valid net → (p k : ℕ) → p < length (net .programs) → k < length (programOf net p)
     → GoodFor (net .channels) p (length (programOf net p)) k (getD (programOf net p) k Unknown)
 net-good net ok p k h l =
     let fours : List Four = getD (net .programs) p [] in
     let b : k < length fours = omega (arith, length-map fours decode) in
-    rw (length-map fours decode, getD-decode fours k b) (good-for (net .channels) p (length fours) k (getD fours k noFour) (ok .actions p k h b))
-  where
-    getD-decode : (l : List Four) (k : ℕ) → k < length l → getD (map decode l) k Unknown ≡ decode (getD l k noFour)
-    getD-decode [] k h = absurd (omega arith)
-    getD-decode (x ∷ l) zero h = refl
-    getD-decode (x ∷ l) (suc k) h = getD-decode l k (omega arith)
+    rw (length-map fours decode, decoded-at fours k b) (good-for (net .channels) p (length fours) k (getD fours k noFour) (ok .actions p k h b))

@@ -16,6 +16,7 @@ pub mod Acting
 pub mod ActLaws
 pub mod Jobs
 pub mod GoodActions
+pub mod TableLaws
 pub mod Places
 pub mod Elements
 pub mod Locality

@@ -11,6 +11,7 @@ use Rattle.network.specs.ListLaws.{length-table, getD-table}
 use Rattle.machine.specs.State.{Contents, nothing, startState}
 use Rattle.machine.specs.ChannelTold.{Sound, heldBy, contentsBy}
 use Rattle.machine.specs.Words.{channelAt, contentsIn, stateBy, SoundWords}
+use Rattle.machine.specs.Acting.{Room}
 
 -- no channel holds anything
 abbrev pub noWords : List ℕ
@@ -59,3 +60,13 @@ start-contents =
 
 pub start-state : stateBy (replicate 96 0) noWords ≡ startState
 start-state = rw start-contents
+
+nothing-at : (c : ℕ) → getD (replicate 16 nothing) c nothing ≡ nothing
+nothing-at c = elim (decLt c 16) [
+  | yes h ↦ getD-replicate 16 c nothing nothing h
+  | no h ↦ List·getD-eq-default (replicate 16 nothing) nothing {n = c} (omega (arith, length-replicate 16 nothing))
+]
+
+-- no value is lost yet
+pub start-room : (more : ℕ) → more < 2 ^ 32 → Room noWords more
+start-room more h = record { room = λ c. rw (start-contents, nothing-at c) (omega arith) }

@@ -1,7 +1,9 @@
 // What both runs are built from: the actions of a process, and what they do to its variables and its channels.
 mod actions;
 mod channels;
+pub mod report;
 pub mod samples;
+pub mod tables;
 mod transfers;
 mod variables;
 mod words;

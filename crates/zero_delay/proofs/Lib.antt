@@ -1,1 +1,3 @@
 mod FrameLoop
+mod FramesLoop
+mod ProcessLoop

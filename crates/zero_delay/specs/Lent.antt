@@ -27,6 +27,14 @@ pub record Ready (program counts kinds processes : List ℕ) (jobs : ℕ) : Type
   pub short : ShortPrograms (work .net)
   pub few : jobs ≤ 128
 
+-- what so many frames need: input, room for the output, and room for a loss with each action
+pub record FramesReady (jobs frames : ℕ) (input output words : List ℕ) : Type 0 where
+  pub few : frames ≤ 100
+  pub input-there : 2 * (jobs * frames) ≤ length input
+  pub output-there : 2 * (jobs * frames) ≤ length output
+  pub sound : SoundWords words
+  pub room : Room words (24 * (jobs * frames))
+
 -- after one frame
 pub record FrameDone (program counts kinds processes : List ℕ) (jobs : ℕ) (input output variables words output′ variables′ words′ : List ℕ) : Type 0 where
   pub sound : SoundWords words′

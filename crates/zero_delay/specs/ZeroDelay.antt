@@ -34,15 +34,20 @@ processIn w k = processOf w (k % jobCountOf w)
 unfoldable pub ranJobs : Work → List ℕ → ℕ → Sofar
 ranJobs w input k = jobsDone (w .net) (processIn w) input startState k
 
--- the call: F, file, 10, samples
+-- the run of a network's work, after the file was read: 10, samples
+unfoldable pub runWork : Work → ℕ → List ℕ → List ℕ → Result Sofar
+runWork w frames input output =
+    andThen (okRoom (2 * (jobCountOf w * frames)) input) λ ok₁.
+    andThen (okRoom (2 * (jobCountOf w * frames)) output) λ ok₂.
+    andThen (okSamples (jobCountOf w * frames) input) λ ok₃.
+    done (ranJobs w input (jobCountOf w * frames))
+
+-- the call: F, file, and then the run
 unfoldable pub zeroDelay : List ℕ → ℕ → List ℕ → List ℕ → Result Sofar
 zeroDelay file frames input output =
-    andThen (okFrames frames) λ ok₁.
+    andThen (okFrames frames) λ ok.
     andThen (loadWork file) λ w.
-    andThen (okRoom (2 * jobCountOf w * frames) input) λ ok₂.
-    andThen (okRoom (2 * jobCountOf w * frames) output) λ ok₃.
-    andThen (okSamples (jobCountOf w * frames) input) λ ok₄.
-    done (ranJobs w input (jobCountOf w * frames))
+    runWork w frames input output
 
 -- what it returns, and the output words afterwards
 unfoldable pub ranOf : Result Sofar → Ran

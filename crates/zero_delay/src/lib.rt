@@ -1,12 +1,75 @@
-// The zero-delay run: a network's jobs one after another.
+// The zero-delay run: the jobs of a network one after another in sequence, frame after frame.
 mod frames;
+mod lists;
 
+use graph::Framed;
 use machine::Held;
+use machine::report;
+use machine::samples;
+use machine::tables;
 use reply::Answer;
+use reply::Reply;
+ghost use mathlib.Core.Path.{_≡_};
+ghost use Prim.Native.Nat.{_*_, _≤_};
+ghost use Rattle.reply.specs.Result.{done};
+ghost use Rattle.graph.specs.Work.{jobCountOf};
+ghost use Rattle.zero_delay.specs.ZeroDelay.{ranJobs, runWork, zeroDelay, ranOf, filledBy};
+ghost use Rattle.zero_delay.specs.Calls.{refusedWith, FrameOf, workIn, Admitted};
 
 // What the run returns, all zero when it is refused: the variables, eight for each process, and what the channels hold.
 pub struct Ran {
     pub answer: Answer,
     pub variables: [u32; 96],
     pub channels: [Held; 16],
+}
+
+fn refused(answer: Answer) -> Ran
+    ensures { λ r. ⌜ r ≡ refusedWith answer ⌝ }
+{
+    let variables = lists::no_variables();
+    let channels = report::no_held();
+    Ran {
+        answer,
+        variables,
+        channels,
+    }
+}
+
+// The run of a frame's jobs, with all that it needs.
+fn run_admitted(framed: Framed, frames: usize, input: &[u32], output: &mut [u32]) -> Ran
+    requires { ⌜ Admitted framed frames (now input) (now output) ⌝ }
+    ensures result { λ r. ⌜ r ≡ ranOf (done (ranJobs (workIn framed) (now (input .entry)) (jobCountOf (workIn framed) * frames))) ⌝ }
+    ensures filled { λ _. ⌜ now (output .exit) ≡ filledBy (done (ranJobs (workIn framed) (now (input .entry)) (jobCountOf (workIn framed) * frames))) (now (output .entry)) ⌝ }
+{
+    let network = framed.network;
+    let program = network.actions;
+    let counts = network.action_counts;
+    let channels = network.channels;
+    let table = framed.jobs;
+    let kinds = tables::kinds_of(channels);
+    let processes = lists::processes_of(table);
+    let jobs = framed.job_count as usize;
+    let mut variables = lists::no_variables();
+    let mut words = lists::no_words();
+    frames::run(
+        &program,
+        &counts,
+        &kinds,
+        &processes,
+        jobs,
+        frames,
+        input,
+        output,
+        &mut variables,
+        &mut words,
+    );
+    let holds = report::held(&words);
+    Ran {
+        answer: Answer {
+            reply: Reply::Done,
+            place: 0,
+        },
+        variables,
+        channels: holds,
+    }
 }
