@@ -7,7 +7,7 @@ use lib.ListN.{replicate}
 use Rattle.reply.specs.Tools.{sum}
 use Rattle.reply.specs.Reply.{replyNumber}
 use Rattle.reply.specs.Result.{Result, done, refused, andThen}
-use Rattle.reply.specs.ResultLaws.{zero-means, other-means}
+use Rattle.reply.specs.ResultLaws.{Honest, honest-done, honest-then, zero-means, other-means}
 use Rattle.marks.specs.Row.{noMarks}
 use Rattle.marks.specs.declared.Row.{Row}
 use Rattle.network.specs.Lists.{table, fillTo}
@@ -106,3 +106,8 @@ pub graph-is : (file : List ℕ) (rows : List Row) (edges : ℕ)
     (graphFile file)
 unfolding frameFile graphFile loadWork
 graph-is file rows edges t = reduced-by (load file) (read-valid file) rows edges t
+
+-- no refusal of a file says "done"
+pub honest-work : (file : List ℕ) → Honest (loadWork file)
+unfolding loadWork
+honest-work file = honest-then (load file) (λ net. done (workOf net)) (honest-load file) (λ net. honest-done (workOf net))

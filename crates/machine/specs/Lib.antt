@@ -4,6 +4,7 @@ pub mod ActionLaws
 pub mod WholeJob
 pub mod JobLaws
 pub mod Samples
+pub mod SampleLaws
 pub mod HeldOf
 pub mod Ledger
 pub mod EmptyRead

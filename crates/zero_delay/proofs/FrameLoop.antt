@@ -70,7 +70,6 @@ module _ {program counts kinds processes : List ℕ} {jobs : ℕ} (ready : Ready
         module _ {x r : Sample} (sampled : x ≡ sampleAt input j) {output′ variables′ words′ : List ℕ}
             (did : JobDone program (getD processes j 0) (getD counts (getD processes j 0) 0) x kinds variables words variables′ words′ r)
             (put : output′ ≡ sets output (2 * j) (sampleWords r)) where
-
           -- the job was that of the definition
           module _ (w : Work) (t : TablesOf w program counts kinds processes jobs) where
             abbrev so-far : Sofar

@@ -116,8 +116,8 @@ module _ {program counts kinds processes : List ℕ} {jobs frames : ℕ} (ready 
               let start = stateBy variables₀ words₀ in
               ap (λ (n : ℕ). jobsDone (w .net) (processIn w) input start n .state) (suc-mul f jobs)
               ∙ subst (λ J. jobsDone (w .net) (processIn w) input start (f * J + J) .state
-                  ≡ jobsDone (w .net) (processOf w) (drop (2 * (f * J)) input) (jobsDone (w .net) (processIn w) input start (f * J) .state) J .state)
-                  (t .count) (frame-more w input start f .0)
+              ≡ jobsDone (w .net) (processOf w) (drop (2 * (f * J)) input) (jobsDone (w .net) (processIn w) input start (f * J) .state) J .state)
+              (t .count) (frame-more w input start f .0)
 
           more-words : jobsDone (w .net) (processIn w) input (stateBy variables₀ words₀) (suc f * jobs) .words
               ≡ so-far .words ++ jobsDone (w .net) (processOf w) (drop (2 * (f * jobs)) input) (so-far .state) jobs .words
@@ -125,9 +125,9 @@ module _ {program counts kinds processes : List ℕ} {jobs frames : ℕ} (ready 
               let start = stateBy variables₀ words₀ in
               ap (λ (n : ℕ). jobsDone (w .net) (processIn w) input start n .words) (suc-mul f jobs)
               ∙ subst (λ J. jobsDone (w .net) (processIn w) input start (f * J + J) .words
-                  ≡ jobsDone (w .net) (processIn w) input start (f * J) .words
-                  ++ jobsDone (w .net) (processOf w) (drop (2 * (f * J)) input) (jobsDone (w .net) (processIn w) input start (f * J) .state) J .words)
-                  (t .count) (frame-more w input start f .1)
+              ≡ jobsDone (w .net) (processIn w) input start (f * J) .words
+              ++ jobsDone (w .net) (processOf w) (drop (2 * (f * J)) input) (jobsDone (w .net) (processIn w) input start (f * J) .state) J .words)
+              (t .count) (frame-more w input start f .1)
 
           next-is : stateBy variables′ words′ ≡ jobsDone (w .net) (processIn w) input (stateBy variables₀ words₀) (suc f * jobs) .state
           next-is = did .state w t ∙ ap (λ (r : Sofar). r .state) same ∙ sym more-state

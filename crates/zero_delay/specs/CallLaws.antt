@@ -6,31 +6,40 @@ use native.Mathlib.Nat.{mul-le-mul}
 use native.Mathlib.Omega.{arith}
 use lib.ListN.{length, getD, replicate}
 use lib.Seq.{sets}
-use Rattle.reply.specs.Result.{done}
-use Rattle.reply.specs.declared.Reply.the-variants.{Done}
+use borrow.Author.Tests.{le-leb, lt-leb}
+use Rattle.reply.specs.Result.{Result, done, refused, andThen, answerOf}
+use Rattle.reply.specs.ResultLaws.{zero-means, other-means}
+use Rattle.reply.specs.Reply.{replyNumber}
+use Rattle.reply.specs.declared.Answer.{Answer}
+use Rattle.reply.specs.declared.Reply.{Reply}
+use Rattle.reply.specs.declared.Reply.the-variants.{Done, OutOfRange, ShortBuffer}
 use Rattle.network.specs.ListLaws.{fill-at}
 use Rattle.network.specs.Net.{Net, fill, within}
 use Rattle.network.specs.Valid.{Valid}
 use Rattle.roundtrip.specs.Promise.{within-fill}
 use Rattle.graph.specs.Sequence.{noJob}
-use Rattle.graph.specs.Work.{Work, workOf, jobCountOf, processOf}
+use Rattle.graph.specs.Work.{Work, workOf, loadWork, jobCountOf, processOf}
 use Rattle.graph.specs.WorkLaws.{work-net}
-use Rattle.graph.specs.Promise.{jobs-are}
+use Rattle.graph.specs.Graph.{framedOf, frameFile}
+use Rattle.graph.specs.FileLaws.{honest-work}
+use Rattle.graph.specs.Promise.{jobs-are, file-work}
 use Rattle.graph.specs.declared.Job.{Job}
 use Rattle.graph.specs.declared.Framed.{Framed}
 use Rattle.machine.specs.State.{State}
 use Rattle.machine.specs.WholeJob.{programOf}
 use Rattle.machine.specs.Ledger.{valid-short}
 use Rattle.machine.specs.HeldOf.{heldOf}
+use Rattle.machine.specs.Samples.{okSamples}
+use Rattle.machine.specs.SampleLaws.{honest-samples}
 use Rattle.machine.specs.Words.{stateBy, contentsIn}
 use Rattle.machine.specs.StartLaws.{noWords, start-sound, start-state, start-room}
 use Rattle.machine.specs.Acting.{KindsTold}
 use Rattle.machine.specs.Jobs.{ProgramIs, Runnable}
 use Rattle.machine.specs.TableLaws.{kinds-are, capacities-are, programs-are, counts-are, runnable-are}
 use Rattle.zero_delay.specs.declared.Ran.{Ran}
-use Rattle.zero_delay.specs.ZeroDelay.{Sofar, ranJobs, processIn, jobsDone, ranOf, filledBy}
+use Rattle.zero_delay.specs.ZeroDelay.{Sofar, ranJobs, runWork, zeroDelay, processIn, jobsDone, ranOf, filledBy}
 use Rattle.zero_delay.specs.Lent.{TablesOf, Ready, FramesReady, FramesDone}
-use Rattle.zero_delay.specs.Calls.{FrameOf, workIn, ProcessesTold, Admitted}
+use Rattle.zero_delay.specs.Calls.{refusedWith, FrameOf, workIn, ProcessesTold, Admitted}
 
 module _ {framed : Framed} (frame : FrameOf framed) where
   network-is : framed .network ≡ fill (frame .net)
@@ -108,3 +117,121 @@ frames-ready {framed} {frames} a = record {
   sound = start-sound;
   room = start-room (24 * (framed .«job_count» * frames)) (omega (arith, mul-le-mul (few-jobs (a .frame)) (a .few)));
 }
+
+-- ---- the cases of a run
+
+module _ (w : Work) (frames : ℕ) (input output : List ℕ) where
+  pub short-input : length input < 2 * (jobCountOf w * frames) → runWork w frames input output ≡ refused ShortBuffer 0
+  unfolding runWork
+  short-input h = rw (lt-leb _ _ h)
+
+  module _ (there : 2 * (jobCountOf w * frames) ≤ length input) where
+    pub short-output : length output < 2 * (jobCountOf w * frames) → runWork w frames input output ≡ refused ShortBuffer 0
+    unfolding runWork
+    short-output h = rw (le-leb _ _ there, lt-leb _ _ h)
+
+    module _ (room : 2 * (jobCountOf w * frames) ≤ length output) where
+      after-rooms : runWork w frames input output ≡ andThen (okSamples (jobCountOf w * frames) input) λ ok. done (ranJobs w input (jobCountOf w * frames))
+      unfolding runWork
+      after-rooms = rw (le-leb _ _ there, le-leb _ _ room)
+
+      pub bad-sample : {reply : Reply} {place : ℕ} → okSamples (jobCountOf w * frames) input ≡ refused reply place → runWork w frames input output ≡ refused reply place
+      bad-sample e = after-rooms ∙ rw e
+
+      pub good-samples : okSamples (jobCountOf w * frames) input ≡ done tt → runWork w frames input output ≡ done (ranJobs w input (jobCountOf w * frames))
+      good-samples e = after-rooms ∙ rw e
+
+-- the same of a frame
+module _ {framed : Framed} (frame : FrameOf framed) (frames : ℕ) (input output : List ℕ) where
+  jobs-is : framed .«job_count» ≡ jobCountOf (workIn framed)
+  jobs-is = count-is frame ∙ sym (ap jobCountOf (work-is frame))
+
+  pub frame-short-input : length input < 2 * (framed .«job_count» * frames) → runWork (workIn framed) frames input output ≡ refused ShortBuffer 0
+  frame-short-input h = short-input _ frames input output (subst (λ J. length input < 2 * (J * frames)) jobs-is h)
+
+  module _ (there : 2 * (framed .«job_count» * frames) ≤ length input) where
+    there-is : 2 * (jobCountOf (workIn framed) * frames) ≤ length input
+    there-is = subst (λ J. 2 * (J * frames) ≤ length input) jobs-is there
+
+    pub frame-short-output : length output < 2 * (framed .«job_count» * frames) → runWork (workIn framed) frames input output ≡ refused ShortBuffer 0
+    frame-short-output h = short-output _ frames input output there-is (subst (λ J. length output < 2 * (J * frames)) jobs-is h)
+
+    module _ (room : 2 * (framed .«job_count» * frames) ≤ length output) {judged : Answer} (told : judged ≡ answerOf (okSamples (framed .«job_count» * frames) input)) where
+      room-is : 2 * (jobCountOf (workIn framed) * frames) ≤ length output
+      room-is = subst (λ J. 2 * (J * frames) ≤ length output) jobs-is room
+
+      judged-is : judged ≡ answerOf (okSamples (jobCountOf (workIn framed) * frames) input)
+      judged-is = told ∙ ap (λ (J : ℕ). answerOf (okSamples (J * frames) input)) jobs-is
+
+      pub frame-bad-sample : (replyNumber (judged .reply) ≡ 0 → ⊥)
+          → runWork (workIn framed) frames input output ≡ refused (judged .reply) (judged .place)
+      frame-bad-sample other =
+          other-means (okSamples (jobCountOf (workIn framed) * frames) input) (λ z. other (rw judged-is z)) λ reply place e.
+          rw (judged-is, e) (bad-sample _ frames input output there-is room-is e)
+
+      pub frame-good-samples : replyNumber (judged .reply) ≡ 0
+          → runWork (workIn framed) frames input output ≡ done (ranJobs (workIn framed) input (jobCountOf (workIn framed) * frames))
+      frame-good-samples zero =
+          zero-means (okSamples (jobCountOf (workIn framed) * frames) input) (honest-samples (jobCountOf (workIn framed) * frames) input) (rw judged-is at zero) λ ok e.
+          good-samples _ frames input output there-is room-is e
+
+-- what a refused run returns, and that it writes nothing
+pub refused-ran : {r : Result Sofar} {reply : Reply} {place : ℕ} → r ≡ refused reply place → refusedWith (record { reply = reply; place = place }) ≡ ranOf r
+unfolding ranOf
+refused-ran e = rw e
+
+pub refused-filled : {r : Result Sofar} {reply : Reply} {place : ℕ} (output : List ℕ) → r ≡ refused reply place → output ≡ filledBy r output
+unfolding filledBy
+refused-filled output e = rw e
+
+-- what a run that is another returns and writes
+pub same-ran : {r q : Result Sofar} {x : Ran} → r ≡ q → x ≡ ranOf q → x ≡ ranOf r
+same-ran e f = f ∙ ap ranOf (sym e)
+
+pub same-filled : {r q : Result Sofar} {after : List ℕ} (output : List ℕ) → r ≡ q → after ≡ filledBy q output → after ≡ filledBy r output
+same-filled output e f = f ∙ ap (λ (r : Result Sofar). filledBy r output) (sym e)
+
+-- ---- the cases of the call
+
+-- an accepted file has a frame
+module _ (file : List ℕ) {framed : Framed} (told : framed ≡ frameFile file) where
+  answer-is : framed .answer ≡ answerOf (loadWork file)
+  unfolding frameFile
+  answer-is = ap (λ (x : Framed). x .answer) told
+
+  -- its network, and the work of the file
+  accepted-as : replyNumber (framed .answer .reply) ≡ 0 → {P : Type 0} → ((frame : FrameOf framed) → loadWork file ≡ done (workOf (frame .net)) → P) → P
+  unfolding frameFile
+  accepted-as zero k =
+      zero-means (loadWork file) (honest-work file) (rw answer-is at zero) λ w e.
+      let (net, l, valid, is) = file-work file w e in
+      let work : loadWork file ≡ done (workOf net) = e ∙ ap done is in
+      k (record { net = net; valid = valid; is = told ∙ ap framedOf work }) work
+
+  pub file-frame : replyNumber (framed .answer .reply) ≡ 0 → FrameOf framed
+  file-frame zero = accepted-as zero λ frame work. frame
+
+module _ (file : List ℕ) (frames : ℕ) (input output : List ℕ) where
+  pub no-frames : frames < 1 → zeroDelay file frames input output ≡ refused OutOfRange 0
+  unfolding zeroDelay
+  no-frames h = rw (lt-leb 1 frames h)
+
+  module _ (some : 1 ≤ frames) where
+    pub many-frames : 100 < frames → zeroDelay file frames input output ≡ refused OutOfRange 0
+    unfolding zeroDelay
+    many-frames h = rw (le-leb 1 frames some, lt-leb frames 100 h)
+
+    module _ (few : frames ≤ 100) {framed : Framed} (told : framed ≡ frameFile file) where
+      in-range : zeroDelay file frames input output ≡ andThen (loadWork file) λ w. runWork w frames input output
+      unfolding zeroDelay
+      in-range = rw (le-leb 1 frames some, le-leb frames 100 few)
+
+      pub file-refused : (replyNumber (framed .answer .reply) ≡ 0 → ⊥) → zeroDelay file frames input output ≡ refused (framed .answer .reply) (framed .answer .place)
+      file-refused other =
+          other-means (loadWork file) (λ z. other (rw (answer-is file told) z)) λ reply place e.
+          rw (answer-is file told, e) (in-range ∙ rw e)
+
+      pub file-run : replyNumber (framed .answer .reply) ≡ 0 → zeroDelay file frames input output ≡ runWork (workIn framed) frames input output
+      file-run zero =
+          accepted-as file told zero λ frame work.
+          in-range ∙ rw work (ap (λ (w : Work). runWork w frames input output) (sym (work-is frame)))

@@ -73,3 +73,52 @@ fn run_admitted(framed: Framed, frames: usize, input: &[u32], output: &mut [u32]
         channels: holds,
     }
 }
+
+// The run of an accepted frame: input and output have to be long enough, and the samples good.
+fn run_framed(framed: Framed, frames: usize, input: &[u32], output: &mut [u32]) -> Ran
+    requires { ⌜ FrameOf framed × (frames ≤ 100) ⌝ }
+    ensures result { λ r. ⌜ r ≡ ranOf (runWork (workIn framed) frames (now (input .entry)) (now (output .entry))) ⌝ }
+    ensures filled { λ _. ⌜ now (output .exit) ≡ filledBy (runWork (workIn framed) frames (now (input .entry)) (now (output .entry))) (now (output .entry)) ⌝ }
+{
+    let count = framed.job_count as usize * frames;
+    let short = Answer {
+        reply: Reply::ShortBuffer,
+        place: 0,
+    };
+    if input.len() < 2 * count {
+        return refused(short);
+    }
+    if output.len() < 2 * count {
+        return refused(short);
+    }
+    let judged = samples::judge(input, count);
+    let reply = judged.reply;
+    if reply::number(reply) == 0 {
+        return run_admitted(framed, frames, input, output);
+    }
+    refused(judged)
+}
+
+// The run of a file's network for so many frames; the output words of its jobs are filled from the front.
+pub fn run(file: &[u8], frames: u32, input: &[u32], output: &mut [u32]) -> Ran
+    ensures result { λ r. ⌜ r ≡ ranOf (zeroDelay (now (file .entry)) frames (now (input .entry)) (now (output .entry))) ⌝ }
+    ensures filled { λ _. ⌜ now (output .exit) ≡ filledBy (zeroDelay (now (file .entry)) frames (now (input .entry)) (now (output .entry))) (now (output .entry)) ⌝ }
+{
+    let out_of_range = Answer {
+        reply: Reply::OutOfRange,
+        place: 0,
+    };
+    if frames < 1 {
+        return refused(out_of_range);
+    }
+    if 100 < frames {
+        return refused(out_of_range);
+    }
+    let framed = graph::frame(file);
+    let answer = framed.answer;
+    let reply = answer.reply;
+    if reply::number(reply) == 0 {
+        return run_framed(framed, frames as usize, input, output);
+    }
+    refused(answer)
+}

@@ -65,8 +65,7 @@ frame-requires c κs =
     let in-loop = c .before .before .before .before in
     let pre = in-loop .before .before .before .before .pre in
     let to = in-loop .before .loop .inv in
-    let on = in-loop .loop-test .taken in
-    (
+    let on = in-loop .loop-test .taken in (
       pre .0,
       (
         part-long _ _ _ _ (width-is _ _) (in-input (pre .0) (pre .1) to on),

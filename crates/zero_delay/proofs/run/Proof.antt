@@ -1,0 +1,56 @@
+-- `run` meets its contract: 4 for the frames, the file's own reply, or the run.
+use borrow.Author.Needs.{needs}
+use mathlib.Core.Path.{sym, _∙_}
+use Rattle.zero_delay.specs.CallLaws.{no-frames, many-frames, file-refused, file-frame, file-run, refused-ran, refused-filled, same-ran, same-filled}
+use Rattle.zero_delay.proofs.run.Statement.{statement}
+use Rattle.zero_delay.proofs.run.Tie as tie
+
+no-frames-returns : tie.Need-returns
+no-frames-returns c =
+    let e = no-frames _ _ _ _ (c .before .if1 .taken) in
+    (c .refused .ensures ∙ refused-ran e, refused-filled _ e)
+
+many-frames-returns : tie.Need-returns-2
+many-frames-returns c =
+    let many = c .before in
+    let e = many-frames _ _ _ _ (many .before .if1 .left) (many .if2 .taken) in
+    (c .refused2 .ensures ∙ refused-ran e, refused-filled _ e)
+
+run-framed-requires : tie.Need-run-framed-requires
+run-framed-requires c κs =
+    let good = c .before in
+    let framed = good .before .before .before in
+    (file-frame _ (framed .frame .ensures) (sym (good .before .number .ensures) ∙ good .if3 .taken), framed .before .if2 .left)
+
+run-returns : tie.Need-returns-3
+run-returns c =
+    let ran = c .before .before in
+    let good = ran .before .before in
+    let framed = good .before .before .before in
+    let few = framed .before in
+    let e = file-run _ _ _ _ (few .before .if1 .left) (few .if2 .left) (framed .frame .ensures) (sym (good .before .number .ensures) ∙ good .if3 .taken) in
+    (same-ran e (ran .run-framed .ensures .0), same-filled (few .before .before .before .before .before .args .output .now) e (ran .run-framed .ensures .1))
+
+refused-returns : tie.Need-returns-4
+refused-returns c =
+    let bad = c .before in
+    let framed = bad .before .before .before in
+    let few = framed .before in
+    let e = file-refused _ _ _ _ (few .before .if1 .left) (few .if2 .left) (framed .frame .ensures) (λ z. bad .if3 .left (bad .before .number .ensures ∙ z)) in
+    (c .refused3 .ensures ∙ refused-ran e, refused-filled _ e)
+
+pub run-spec : {M : Type 1} → statement M
+run-spec =
+    tie.close
+    (tie.spec
+    (λ c κs. search needs)
+    no-frames-returns
+    (λ c κs. search needs)
+    many-frames-returns
+    (λ c κs. search needs)
+    (λ c κs. search needs)
+    run-framed-requires
+    (λ c. search needs)
+    run-returns
+    (λ c κs. search needs)
+    refused-returns)
