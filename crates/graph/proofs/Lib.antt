@@ -9,3 +9,4 @@ mod Stores
 mod TakeOne
 mod Totals
 mod Turning
+mod ColumnLoop

@@ -3,7 +3,7 @@ use Prim.Native.Nat.{ℕ, _≤_}
 use mathlib.Core.Path.{_≡_, refl, sym, ap, _∙_}
 use mathlib.Core.List.{List}
 use native.Mathlib.Omega.{arith}
-use lib.ListN.{replicate}
+use lib.ListN.{length, replicate, length-replicate}
 use Rattle.reply.specs.Tools.{sum}
 use Rattle.reply.specs.Reply.{replyNumber}
 use Rattle.reply.specs.Result.{Result, done, refused, andThen}
@@ -11,6 +11,7 @@ use Rattle.reply.specs.ResultLaws.{Honest, honest-done, honest-then, zero-means
 use Rattle.marks.specs.Row.{noMarks}
 use Rattle.marks.specs.declared.Row.{Row}
 use Rattle.network.specs.Lists.{table, fillTo}
+use Rattle.network.specs.ListLaws.{length-fill}
 use Rattle.network.specs.Net.{Net, within}
 use Rattle.network.specs.Read.{load, readFile}
 use Rattle.network.specs.Valid.{Valid}
@@ -111,3 +112,12 @@ graph-is file rows edges t = reduced-by (load file) (read-valid file) rows edges
 pub honest-work : (file : List ℕ) → Honest (loadWork file)
 unfolding loadWork
 honest-work file = honest-then (load file) (λ net. done (workOf net)) (honest-load file) (λ net. honest-done (workOf net))
+
+-- the table of jobs has 128 places
+table-by : (r : Result Net) → ((net : Net) → r ≡ done net → Valid net) → length (graphBy r .jobs) ≡ 128
+table-by (done net) v = length-fill 128 noJob (workOf net .jobs) (jobs-are net (v net refl) .most)
+table-by (refused reply place) v = length-replicate 128 noJob
+
+pub graph-table : (file : List ℕ) → length (graphFile file .jobs) ≡ 128
+unfolding graphFile loadWork
+graph-table file = table-by (load file) (read-valid file)

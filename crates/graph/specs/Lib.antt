@@ -21,3 +21,4 @@ pub mod GraphLaws
 pub mod FrameTold
 pub mod EntryLaws
 pub mod FileLaws
+pub mod Columns

@@ -1,4 +1,5 @@
 // The frame of a network: its jobs in sequence, which job precedes which, and the precedence graph.
+pub mod columns;
 mod precedence;
 mod reduction;
 mod sequence;

@@ -46,6 +46,7 @@ pub struct Under {
 }
 
 // What a run returns of a channel: how many values it holds, the values, oldest first and zeros after them, and the loss count.
+#[repr(C)]
 pub struct Held {
     pub number: u32,
     pub values: [u32; 8],

@@ -3,6 +3,7 @@ ghost use mathlib.Core.Path.{_≡_};
 ghost use Rattle.marks.specs.Row.{noMarks, marked, withOf, orOf, withoutOf, insideOf, countOf};
 
 // Mark k is bit k of the low word; from 64 on, bit k - 64 of the high word.
+#[repr(C)]
 pub struct Row {
     pub low: u64,
     pub high: u64,

@@ -26,6 +26,7 @@ ghost use Rattle.network.specs.Read.{load, readFile};
 ghost use Rattle.network.specs.Write.{wrote, wroteTo};
 
 // One process: its period, the jobs it releases each time, and each job's relative deadline and budget, in ticks.
+#[repr(C)]
 pub struct Process {
     pub period: u32,
     pub burst: u32,
@@ -33,12 +34,14 @@ pub struct Process {
     pub budget: u32,
 }
 
+#[repr(C)]
 pub struct Pair {
     pub higher: u32,
     pub lower: u32,
 }
 
 // Kind 0 is a queue, 1 a board.
+#[repr(C)]
 pub struct Channel {
     pub kind: u32,
     pub writer: u32,
@@ -55,6 +58,7 @@ pub struct Four {
 }
 
 // Zero past the counts. Action k of process p stands at 96 * p + 4 * k of `actions`.
+#[repr(C)]
 pub struct Network {
     pub process_count: u32,
     pub processes: [Process; 12],

@@ -1,3 +1,2 @@
 mod FrameLoop
 mod FramesLoop
-mod ProcessLoop

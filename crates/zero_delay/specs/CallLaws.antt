@@ -22,6 +22,7 @@ use Rattle.graph.specs.Work.{Work, workOf, loadWork, jobCountOf, processOf}
 use Rattle.graph.specs.WorkLaws.{work-net}
 use Rattle.graph.specs.Graph.{framedOf, frameFile}
 use Rattle.graph.specs.FileLaws.{honest-work}
+use Rattle.graph.specs.Columns.{Column}
 use Rattle.graph.specs.Promise.{jobs-are, file-work}
 use Rattle.graph.specs.declared.Job.{Job}
 use Rattle.graph.specs.declared.Framed.{Framed}
@@ -39,7 +40,7 @@ use Rattle.machine.specs.TableLaws.{kinds-are, capacities-are, programs-are, co
 use Rattle.zero_delay.specs.declared.Ran.{Ran}
 use Rattle.zero_delay.specs.ZeroDelay.{Sofar, ranJobs, runWork, zeroDelay, processIn, jobsDone, ranOf, filledBy}
 use Rattle.zero_delay.specs.Lent.{TablesOf, Ready, FramesReady, FramesDone}
-use Rattle.zero_delay.specs.Calls.{refusedWith, FrameOf, workIn, ProcessesTold, Admitted}
+use Rattle.zero_delay.specs.Calls.{refusedWith, FrameOf, workIn, Admitted}
 
 module _ {framed : Framed} (frame : FrameOf framed) where
   network-is : framed .network ≡ fill (frame .net)
@@ -61,14 +62,14 @@ module _ {framed : Framed} (frame : FrameOf framed) where
   pub few-jobs : framed .«job_count» ≤ 128
   few-jobs = omega (arith, count-is, jobs-are (frame .net) (frame .valid) .most)
 
-  module _ {kinds processes : List ℕ} (kinded : KindsTold (framed .network .channels) kinds) (told : ProcessesTold (framed .jobs) processes) where
+  module _ {kinds processes : List ℕ} (kinded : KindsTold (framed .network .channels) kinds) (told : Column (λ (j : Job). j .process) (framed .jobs) processes) where
     kinded-net : KindsTold (fill (frame .net) .channels) kinds
     kinded-net = rw network-is at kinded
 
     pub tables : TablesOf (workOf (frame .net)) (framed .network .actions) (framed .network .«action_counts») kinds processes (framed .«job_count»)
     tables = record {
       count = sym count-is;
-      process = λ j h. told .process j (omega (arith, few-jobs)) ∙ ap (λ (x : Job). x .process) (job-is j);
+      process = λ j h. told .each j (omega (arith, few-jobs)) ∙ ap (λ (x : Job). x .process) (job-is j);
       program-is = λ j h.
           let p : ℕ = processOf (workOf (frame .net)) j in
           rw (work-net (frame .net), network-is, counts-are (frame .net) (frame .valid) p (has-program j h)) (programs-are (frame .net) (frame .valid) p (has-program j h));

@@ -1,16 +1,14 @@
 -- What the steps of the call know and give: the frame of an accepted file, its tables, and the run on them.
-use Prim.Native.Nat.{ℕ, _*_, _≤_, _<_}
+use Prim.Native.Nat.{ℕ, _*_, _≤_}
 use mathlib.Core.Path.{_≡_}
 use mathlib.Core.List.{List}
-use lib.ListN.{length, getD, replicate}
+use lib.ListN.{length, replicate}
 use Rattle.reply.specs.Result.{done}
 use Rattle.reply.specs.declared.Answer.{Answer}
 use Rattle.network.specs.Net.{Net, within}
 use Rattle.network.specs.Valid.{Valid}
-use Rattle.graph.specs.Sequence.{noJob}
 use Rattle.graph.specs.Work.{Work, workOf}
 use Rattle.graph.specs.Graph.{framedOf}
-use Rattle.graph.specs.declared.Job.{Job}
 use Rattle.graph.specs.declared.Framed.{Framed}
 use Rattle.machine.specs.HeldOf.{noHeld}
 use Rattle.zero_delay.specs.declared.Ran.{Ran}
@@ -28,10 +26,6 @@ pub record FrameOf (framed : Framed) : Type 0 where
 -- its work
 abbrev pub workIn : Framed → Work
 workIn framed = workOf (within (framed .network))
-
--- the process of each job
-pub record ProcessesTold (jobs : List Job) (processes : List ℕ) : Type 0 where
-  pub process : (j : ℕ) → j < 128 → getD processes j 0 ≡ getD jobs j noJob .process
 
 -- a run that is not refused: so many frames, and input and output are long enough for them
 pub record Admitted (framed : Framed) (frames : ℕ) (input output : List ℕ) : Type 0 where

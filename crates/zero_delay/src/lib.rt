@@ -1,8 +1,9 @@
 // The zero-delay run: the jobs of a network one after another in sequence, frame after frame.
+mod empty;
 mod frames;
-mod lists;
 
 use graph::Framed;
+use graph::columns;
 use machine::Held;
 use machine::report;
 use machine::samples;
@@ -26,7 +27,7 @@ pub struct Ran {
 fn refused(answer: Answer) -> Ran
     ensures { λ r. ⌜ r ≡ refusedWith answer ⌝ }
 {
-    let variables = lists::no_variables();
+    let variables = empty::no_variables();
     let channels = report::no_held();
     Ran {
         answer,
@@ -47,10 +48,10 @@ fn run_admitted(framed: Framed, frames: usize, input: &[u32], output: &mut [u32]
     let channels = network.channels;
     let table = framed.jobs;
     let kinds = tables::kinds_of(channels);
-    let processes = lists::processes_of(table);
+    let processes = columns::processes(table);
     let jobs = framed.job_count as usize;
-    let mut variables = lists::no_variables();
-    let mut words = lists::no_words();
+    let mut variables = empty::no_variables();
+    let mut words = empty::no_words();
     frames::run(
         &program,
         &counts,

@@ -10,7 +10,7 @@ run-requires c κs =
     let empty = c .before .before .before .before .before .before .before in
     let listed = empty .before .before .before in
     let admitted = listed .before .before .before .before .before .before .before .before .before .pre in
-    (ready (admitted .frame) (listed .before .kinds-of .ensures) (listed .processes-of .ensures), rw (empty .no-words .ensures) (frames-ready admitted))
+    (ready (admitted .frame) (listed .before .kinds-of .ensures) (listed .processes .ensures), rw (empty .no-words .ensures) (frames-ready admitted))
 
 held-requires : tie.Need-held-requires
 held-requires c κs = c .before .before .before .run .ensures .sound
@@ -22,7 +22,7 @@ returns c =
     let listed = empty .before .before .before in
     let frame = listed .before .before .before .before .before .before .before .before .before .pre .frame in
     let kinded = listed .before .kinds-of .ensures in
-    let told = listed .processes-of .ensures in
+    let told = listed .processes .ensures in
     let did = rw (empty .no-words .ensures, empty .before .no-variables .ensures) at (ran .run .ensures) in
     (rw (c .held .ensures) (result-is frame kinded told did), filled-is frame kinded told did)
 

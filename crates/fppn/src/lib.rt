@@ -1,0 +1,132 @@
+// The face to C and Rust: each entry point under a plain name. Every answer begins with the number of the reply, and its place.
+mod columns;
+
+use machine::Held;
+use marks::Row;
+use network::Network;
+ghost use mathlib.Core.Path.{_≡_};
+ghost use Rattle.network.specs.Read.{readFile};
+ghost use Rattle.network.specs.Write.{wrote, wroteTo};
+ghost use Rattle.graph.specs.Graph.{graphFile};
+ghost use Rattle.zero_delay.specs.ZeroDelay.{zeroDelay, ranOf, filledBy};
+ghost use Rattle.fppn.specs.Answers.{loadedFrom, writtenFrom, graphFrom, ranFrom};
+
+// The network of a file, all zero when it is refused.
+#[repr(C)]
+pub struct FppnLoaded {
+    pub reply: u32,
+    pub place: usize,
+    pub network: Network,
+}
+
+// How many bytes were written.
+#[repr(C)]
+pub struct FppnWritten {
+    pub reply: u32,
+    pub place: usize,
+    pub length: usize,
+}
+
+// The precedence graph: how many jobs there are, the frame's length, how many edges stay; of each job its process, release, deadline and budget;
+// and row i of `rows` marks each job that an edge leads to from job i.
+#[repr(C)]
+pub struct FppnGraphResult {
+    pub reply: u32,
+    pub place: usize,
+    pub jobs: u32,
+    pub frame: u32,
+    pub edges: u32,
+    pub process: [u32; 128],
+    pub release: [u32; 128],
+    pub deadline: [u32; 128],
+    pub budget: [u32; 128],
+    pub rows: [Row; 128],
+}
+
+// The variables after a run, and what the channels hold.
+#[repr(C)]
+pub struct FppnRan {
+    pub reply: u32,
+    pub place: usize,
+    pub variables: [u32; 96],
+    pub channels: [Held; 16],
+}
+
+// Reads a network file.
+#[no_mangle]
+pub extern "C" fn fppn_read(file: &[u8]) -> FppnLoaded
+    ensures { λ r. ⌜ r ≡ loadedFrom (readFile (now (file .entry))) ⌝ }
+{
+    let loaded = network::read(file);
+    let answer = loaded.answer;
+    let network = loaded.network;
+    let reply = answer.reply;
+    FppnLoaded {
+        reply: reply::number(reply),
+        place: answer.place,
+        network,
+    }
+}
+
+// Writes a network's file to the front of the lent bytes.
+#[no_mangle]
+pub extern "C" fn fppn_write(network: Network, out: &mut [u8]) -> FppnWritten
+    ensures { λ r. ⌜ r ≡ writtenFrom (wrote network (now (out .entry))) ⌝ }
+    ensures { λ _. ⌜ now (out .exit) ≡ wroteTo network (now (out .entry)) ⌝ }
+{
+    let written = network::write(network, out);
+    let answer = written.answer;
+    let reply = answer.reply;
+    FppnWritten {
+        reply: reply::number(reply),
+        place: answer.place,
+        length: written.length,
+    }
+}
+
+// The precedence graph of a file.
+#[no_mangle]
+pub extern "C" fn fppn_graph(file: &[u8]) -> FppnGraphResult
+    ensures { λ r. ⌜ r ≡ graphFrom (graphFile (now (file .entry))) ⌝ }
+{
+    let graph = graph::graph(file);
+    let answer = graph.answer;
+    let reply = answer.reply;
+    let jobs = graph.jobs;
+    let rows = graph.rows;
+    let process = columns::processes(jobs);
+    let release = columns::releases(jobs);
+    let deadline = columns::deadlines(jobs);
+    let budget = columns::budgets(jobs);
+    FppnGraphResult {
+        reply: reply::number(reply),
+        place: answer.place,
+        jobs: graph.job_count,
+        frame: graph.frame,
+        edges: graph.edges,
+        process,
+        release,
+        deadline,
+        budget,
+        rows,
+    }
+}
+
+// The zero-delay run of a file's network for so many frames.
+#[no_mangle]
+pub extern "C" fn fppn_zero_delay(file: &[u8], frames: u32, input: &[u32], output: &mut [u32]) -> FppnRan
+    ensures { λ r. ⌜ r ≡ ranFrom (ranOf (zeroDelay (now (file .entry)) frames (now (input .entry)) (now (output .entry)))) ⌝ }
+    ensures { λ _. ⌜ now (output .exit) ≡ filledBy (zeroDelay (now (file .entry)) frames (now (input .entry)) (now (output .entry))) (now (output .entry)) ⌝ }
+{
+    let ran = zero_delay::run(file, frames, input, output);
+    let answer = ran.answer;
+    let reply = answer.reply;
+    let variables = ran.variables;
+    let channels = ran.channels;
+    FppnRan {
+        reply: reply::number(reply),
+        place: answer.place,
+        variables,
+        channels,
+    }
+}

@@ -1,0 +1,60 @@
+// The table of jobs, column by column.
+use crate::Job;
+ghost use mathlib.Core.Path.{_≡_};
+ghost use lib.ListN.{replicate};
+ghost use Rattle.graph.specs.declared.Job.{Job};
+ghost use Rattle.graph.specs.Columns.{Column};
+
+fn zeros() -> [u32; 128]
+    ensures { λ r. ⌜ r ≡ replicate 128 0 ⌝ }
+{
+    [0; 128]
+}
+
+pub fn processes(jobs: [Job; 128]) -> [u32; 128]
+    ensures { λ r. ⌜ Column (λ (j : Job). j .process) jobs r ⌝ }
+{
+    let mut column = zeros();
+    let mut j = 0usize;
+    while j < 128 {
+        column[j] = jobs[j].process;
+        j += 1;
+    }
+    column
+}
+
+pub fn releases(jobs: [Job; 128]) -> [u32; 128]
+    ensures { λ r. ⌜ Column (λ (j : Job). j .release) jobs r ⌝ }
+{
+    let mut column = zeros();
+    let mut j = 0usize;
+    while j < 128 {
+        column[j] = jobs[j].release;
+        j += 1;
+    }
+    column
+}
+
+pub fn deadlines(jobs: [Job; 128]) -> [u32; 128]
+    ensures { λ r. ⌜ Column (λ (j : Job). j .deadline) jobs r ⌝ }
+{
+    let mut column = zeros();
+    let mut j = 0usize;
+    while j < 128 {
+        column[j] = jobs[j].deadline;
+        j += 1;
+    }
+    column
+}
+
+pub fn budgets(jobs: [Job; 128]) -> [u32; 128]
+    ensures { λ r. ⌜ Column (λ (j : Job). j .budget) jobs r ⌝ }
+{
+    let mut column = zeros();
+    let mut j = 0usize;
+    while j < 128 {
+        column[j] = jobs[j].budget;
+        j += 1;
+    }
+    column
+}
