@@ -1,6 +1,5 @@
 // The face to C and Rust: each entry point under a plain name. Every answer begins with the number of the reply, and its place.
-mod columns;
-
+use graph::columns;
 use machine::Held;
 use marks::Row;
 use network::Network;
@@ -114,7 +113,12 @@ pub extern "C" fn fppn_graph(file: &[u8]) -> FppnGraphResult
 
 // The zero-delay run of a file's network for so many frames.
 #[no_mangle]
-pub extern "C" fn fppn_zero_delay(file: &[u8], frames: u32, input: &[u32], output: &mut [u32]) -> FppnRan
+pub extern "C" fn fppn_zero_delay(
+    file: &[u8],
+    frames: u32,
+    input: &[u32],
+    output: &mut [u32],
+) -> FppnRan
     ensures { λ r. ⌜ r ≡ ranFrom (ranOf (zeroDelay (now (file .entry)) frames (now (input .entry)) (now (output .entry)))) ⌝ }
     ensures { λ _. ⌜ now (output .exit) ≡ filledBy (zeroDelay (now (file .entry)) frames (now (input .entry)) (now (output .entry))) (now (output .entry)) ⌝ }
 {

@@ -1,0 +1,61 @@
+-- An answer made of an entry point's fields is what C is given of it.
+use Prim.Native.Nat.{ℕ}
+use mathlib.Core.Path.{_≡_, refl, ap, _∙_}
+use mathlib.Core.List.{List}
+use lib.ListN.{length}
+use Rattle.reply.specs.Reply.{replyNumber}
+use Rattle.network.specs.declared.Loaded.{Loaded}
+use Rattle.network.specs.declared.Written.{Written}
+use Rattle.graph.specs.Columns.{Column, column-is}
+use Rattle.graph.specs.declared.Job.{Job}
+use Rattle.graph.specs.declared.PrecedenceGraph.{PrecedenceGraph}
+use Rattle.zero_delay.specs.declared.Ran.{Ran}
+use Rattle.fppn.specs.Answers.{loadedFrom, writtenFrom, graphFrom, ranFrom}
+use Rattle.fppn.specs.declared.FppnLoaded.{FppnLoaded}
+use Rattle.fppn.specs.declared.FppnWritten.{FppnWritten}
+use Rattle.fppn.specs.declared.FppnGraphResult.{FppnGraphResult}
+use Rattle.fppn.specs.declared.FppnRan.{FppnRan}
+
+pub loaded-is : (l : Loaded) {told : Loaded} {n : ℕ} → l ≡ told → n ≡ replyNumber (l .answer .reply)
+    → _≡_ {A = FppnLoaded} (record { reply = n; place = l .answer .place; network = l .network }) (loadedFrom told)
+unfolding loadedFrom
+loaded-is l e f = rw f (ap loadedFrom e)
+
+pub written-is : (w : Written) {told : Written} {n : ℕ} → w ≡ told → n ≡ replyNumber (w .answer .reply)
+    → _≡_ {A = FppnWritten} (record { reply = n; place = w .answer .place; length = w .length }) (writtenFrom told)
+unfolding writtenFrom
+written-is w e f = rw f (ap writtenFrom e)
+
+pub ran-is : (r : Ran) {told : Ran} {n : ℕ} → r ≡ told → n ≡ replyNumber (r .answer .reply)
+    → _≡_ {A = FppnRan} (record { reply = n; place = r .answer .place; variables = r .variables; channels = r .channels }) (ranFrom told)
+unfolding ranFrom
+ran-is r e f = rw f (ap ranFrom e)
+
+pub graph-is : (g : PrecedenceGraph) {told : PrecedenceGraph} {n : ℕ} {process release deadline budget : List ℕ}
+    → g ≡ told → length (told .jobs) ≡ 128 → n ≡ replyNumber (g .answer .reply)
+    → Column (λ (j : Job). j .process) (g .jobs) process
+    → Column (λ (j : Job). j .release) (g .jobs) release
+    → Column (λ (j : Job). j .deadline) (g .jobs) deadline
+    → Column (λ (j : Job). j .budget) (g .jobs) budget
+    → _≡_ {A = FppnGraphResult} (record {
+      reply = n;
+      place = g .answer .place;
+      jobs = g .«job_count»;
+      frame = g .frame;
+      edges = g .edges;
+      process = process;
+      release = release;
+      deadline = deadline;
+      budget = budget;
+      rows = g .rows;
+    }) (graphFrom told)
+unfolding graphFrom
+graph-is g {process = process} {release = release} {deadline = deadline} {budget = budget} e size f p r d b =
+    let full : length (g .jobs) ≡ 128 = ap (λ (x : PrecedenceGraph). length (x .jobs)) e ∙ size in
+    rw (
+      f,
+      column-is (λ (j : Job). j .process) refl (g .jobs) full process p,
+      column-is (λ (j : Job). j .release) refl (g .jobs) full release r,
+      column-is (λ (j : Job). j .deadline) refl (g .jobs) full deadline d,
+      column-is (λ (j : Job). j .budget) refl (g .jobs) full budget b,
+    ) (ap graphFrom e)
