@@ -1,0 +1,129 @@
+/*
+ * Cierniwoj: fixed priority process networks, for C.
+ *
+ * Every function takes any bytes, tables and numbers at all, and returns. Each answer begins with the number of the reply and the place that it
+ * speaks of; 0 at 0 is "done". A refused call returns zeros beside reply and place, and changes none of the lent memory. A call that is done changes
+ * no lent memory beyond what it fills. No function keeps a pointer, allocates, or uses anything but its arguments: calls may run at the same time.
+ *
+ * A pointer with its length has to lead to that many elements; with length 0 it is not read, but must not be null: give any aligned address.
+ * Two pieces of memory lent to one call must not overlap.
+ *
+ *   reply                                                                   place
+ *    0    done                                                              0
+ *    1    the file ends in or before a number                               that number
+ *    2    malformed number                                                  that number
+ *    3    version not 1                                                     0
+ *    4    field or count beyond its range                                   that number; 0 for frames (1 to 100)
+ *    5    pair out of range, of one process, repeated; pairs form a cycle   pair; byte after the pairs
+ *    6    channel end out of range, both equal, or without a pair           channel
+ *    7    unknown action, operand out of range, not that channel's end      action
+ *    8    bytes left over                                                   first of them
+ *    9    frame above 2000 ticks or more than 128 jobs                      byte after the process records
+ *   10    lent memory is shorter than what the call reads or fills          0
+ *   16    sample with present above 1, or a value without present           sample
+ *
+ * Places in a file are byte offsets. The file's format is in the README.
+ */
+#ifndef FPPN_H
+#define FPPN_H
+
+#include <stddef.h>
+#include <stdint.h>
+
+#ifdef __cplusplus
+extern "C" {
+#endif
+
+/* Ticks. */
+typedef struct {
+    uint32_t period;   /* 1 to 1000 */
+    uint32_t burst;    /* jobs released at once, 1 to 4 */
+    uint32_t deadline; /* after the release, 1 to period */
+    uint32_t budget;   /* 1 to deadline */
+} fppn_process;
+
+typedef struct {
+    uint32_t higher;
+    uint32_t lower;
+} fppn_pair;
+
+typedef struct {
+    uint32_t kind; /* 0 queue, 1 board */
+    uint32_t writer;
+    uint32_t reader;
+    uint32_t capacity; /* 1 to 8; a board: 1 */
+} fppn_channel;
+
+/* Zero past the counts. Action k of process p is the four numbers from 96 * p + 4 * k on. */
+typedef struct {
+    uint32_t process_count;
+    fppn_process processes[12];
+    uint32_t pair_count;
+    fppn_pair pairs[66];
+    uint32_t channel_count;
+    fppn_channel channels[16];
+    uint32_t action_counts[12];
+    uint32_t actions[1152];
+} fppn_network;
+
+typedef struct {
+    uint32_t reply;
+    size_t place;
+    fppn_network network;
+} fppn_loaded;
+
+typedef struct {
+    uint32_t reply;
+    size_t place;
+    size_t length; /* bytes written */
+} fppn_written;
+
+/* Jobs in their sequence, zero past the count. */
+typedef struct {
+    uint32_t reply;
+    size_t place;
+    uint32_t jobs;  /* at most 128 */
+    uint32_t frame; /* ticks, at most 2000 */
+    uint32_t edges;
+    uint32_t process[128];
+    uint32_t release[128];
+    uint32_t deadline[128]; /* release plus the deadline of its process */
+    uint32_t budget[128];
+    uint64_t rows[256]; /* an edge leads from job i to job k: bit k % 64 of word 2 * i + k / 64 */
+} fppn_graph_result;
+
+typedef struct {
+    uint32_t held;      /* how many values */
+    uint32_t values[8]; /* oldest first, zeros after them */
+    uint32_t loss;      /* writes that met a full queue; 0 for a board */
+} fppn_held;
+
+/* Variable a of process p stands at 8 * p + a. */
+typedef struct {
+    uint32_t reply;
+    size_t place;
+    uint32_t variables[96];
+    fppn_held channels[16];
+} fppn_ran;
+
+/* Reads a network file. Replies 0 to 9. */
+fppn_loaded fppn_read(const uint8_t *file, size_t file_length);
+
+/* Writes the file of a network to the front of `out`; the longest has 2600 bytes. It looks at nothing past the counts.
+   Replies 0, 4 to 7, 9 and 10: what the reader would give on that file, then 10. */
+fppn_written fppn_write(fppn_network network, uint8_t *out, size_t out_length);
+
+/* The jobs of a frame in sequence, and the precedence graph: the edges that stay in the transitive reduction. Replies 0 to 9. */
+fppn_graph_result fppn_graph(const uint8_t *file, size_t file_length);
+
+/* The zero-delay run: the jobs one after another in sequence, for 1 to 100 frames. A sample is two numbers, present (0 or 1) and value (0 where it
+   is not present). Job j of frame f, of J jobs in a frame, has sample f * J + j of `input`, and outputs sample f * J + j of `output`; both have
+   2 * J * frames numbers, and what lies beyond is neither read nor changed. Replies 0 to 10 and 16. */
+fppn_ran fppn_zero_delay(const uint8_t *file, size_t file_length, uint32_t frames, const uint32_t *input, size_t input_length, uint32_t *output,
+                         size_t output_length);
+
+#ifdef __cplusplus
+}
+#endif
+
+#endif
