@@ -6,7 +6,7 @@ use mathlib.Core.List.{List}
 use lib.ListN.{getD}
 use Rattle.marks.specs.Row.{marked, noMarks}
 use Rattle.marks.specs.declared.Row.{Row}
-use Rattle.network.specs.Chains.{Relation, holds, relation, through, chains}
+use Rattle.network.specs.Chains.{holds, relation, through, chains}
 use Rattle.network.specs.ChainLaws.{relation-holds}
 use Rattle.network.specs.ChainsSame.{relation-same}
 use Rattle.network.specs.Pairs.{aheads}

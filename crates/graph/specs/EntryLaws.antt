@@ -1,7 +1,6 @@
 -- A network that was read: what its struct holds, and its frame's work, piece by piece.
 use Prim.Native.Nat.{ℕ, _≤_, _<_, min}
 use mathlib.Core.Path.{_≡_, refl, sym, ap, subst, _∙_}
-use mathlib.Core.Bool.{Bool}
 use mathlib.Core.List.{List}
 use native.Mathlib.Omega.{arith}
 use lib.ListN.{length, getD, take}
@@ -16,14 +15,14 @@ use Rattle.network.specs.Frame.{noProcess, processAt, frameLength}
 use Rattle.network.specs.Pairs.{aheads}
 use Rattle.network.specs.AheadTold.{AheadTold}
 use Rattle.network.specs.Net.{Net, fill, within}
-use Rattle.network.specs.Valid.{Valid, GoodProcess}
+use Rattle.network.specs.Valid.{GoodProcess}
 use Rattle.network.specs.declared.Process.{Process}
 use Rattle.network.specs.declared.Network.{Network}
 use Rattle.roundtrip.specs.Promise.{within-fill}
 use Rattle.graph.specs.Order.{comesBefore, rowRelation}
 use Rattle.graph.specs.AheadLaws.{rows-before}
 use Rattle.graph.specs.Sequence.{noJob, sequenceTo}
-use Rattle.graph.specs.Work.{Work, workOf, jobOf, jobCountOf, precedesBy}
+use Rattle.graph.specs.Work.{workOf, jobOf, jobCountOf, precedesBy}
 use Rattle.graph.specs.Graph.{rowsTo, framedOf}
 use Rattle.graph.specs.OrderLaws.{orderOf}
 use Rattle.graph.specs.Promise.{never-full, jobs-are}

@@ -3,7 +3,7 @@ use Prim.Native.Nat.{ℕ, zero, suc, _+_, _≤_, _<_}
 use mathlib.Core.Path.{_≡_, refl, sym, ap, ap₂, _∙_}
 use mathlib.Core.List.{List}
 use native.Mathlib.Omega.{arith}
-use lib.ListN.{length, getD}
+use lib.ListN.{getD}
 use Rattle.network.specs.Net.{Net, fourAt}
 use Rattle.machine.specs.State.{State, nothing}
 use Rattle.machine.specs.Actions.{decode, effect, outputAfter, skipped}
@@ -11,7 +11,7 @@ use Rattle.machine.specs.WholeJob.{started, actState, actUnder, nextActi
 use Rattle.machine.specs.JobLaws.{go-on-step, go-on-end}
 use Rattle.machine.specs.Ledger.{action-loss}
 use Rattle.machine.specs.Words.{contentsIn, stateBy, SoundWords}
-use Rattle.machine.specs.Acting.{Operands, KindsOf, Room, Able, Acted}
+use Rattle.machine.specs.Acting.{KindsOf, Room, Able, Acted}
 use Rattle.machine.specs.Jobs.{ProgramIs, Runs, JobDone}
 use Rattle.machine.specs.declared.Sample.{Sample}
 use Rattle.machine.specs.declared.Under.{Under}

@@ -5,7 +5,6 @@ use mathlib.Core.Logic.{_≢_}
 use borrow.Author.Tests.{ne-eqb}
 use Rattle.network.specs.declared.Four.{Four}
 use Rattle.machine.specs.Actions.{decode}
-use Rattle.machine.specs.declared.Action.{Action}
 use Rattle.machine.specs.declared.Action.the-variants.{Set, Add, Subtract, Read, Write, Input, Output, Skip, Unknown}
 
 module _ (head a b c : ℕ) where

@@ -1,7 +1,6 @@
 -- The table of actions: which action four numbers say, what it does to variables and channels, what it outputs, and how many actions it skips.
 use Prim.Native.Nat.{ℕ, _+_, _-_, _%_, _^_}
 use mathlib.Core.Bool.{cond}
-use mathlib.Core.List.{List}
 use lib.ListN.{getD}
 use lib.Dec.{eqb}
 use Rattle.network.specs.Net.{Net, noChannel}

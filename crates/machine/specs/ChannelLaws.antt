@@ -1,8 +1,7 @@
 -- Reads and writes on the struct of a channel are those on what it holds.
 use Prim.Native.Nat.{ℕ, zero, suc, _+_, _-_, _≤_, _<_, _%_}
-use mathlib.Core.Path.{_≡_, refl, sym, ap, ap₂, _∙_}
+use mathlib.Core.Path.{_≡_, refl, ap, ap₂, _∙_}
 use mathlib.Core.Logic.{_≢_}
-use mathlib.Core.Bool.{true, false}
 use mathlib.Core.List.{List, [], _∷_, _++_}
 use native.Mathlib.Omega.{arith}
 use lib.Dec.{eqb}
@@ -13,8 +12,8 @@ use Rattle.reply.specs.Tests.{split}
 use Rattle.network.specs.Lists.{table}
 use Rattle.network.specs.ListLaws.{length-table}
 use Rattle.network.specs.ChainsSame.{table-same}
-use Rattle.machine.specs.State.{oldest, flag, rest, Contents, afterRead, afterWrite}
-use Rattle.machine.specs.ChannelTold.{Sound, heldBy, contentsBy, TakenFrom, PutInto}
+use Rattle.machine.specs.State.{flag, afterRead, afterWrite}
+use Rattle.machine.specs.ChannelTold.{Sound, heldBy, TakenFrom, PutInto}
 use Rattle.machine.specs.declared.Channel.{Channel}
 
 table-front : {A : Type 0} (n : ℕ) (f : ℕ → A) → table (suc n) f ≡ f 0 ∷ table n (λ k. f (suc k))

@@ -5,7 +5,7 @@ use lib.ListN.{length}
 use borrow.Author.Tests.{le-leb, lt-leb}
 use Rattle.network.specs.Net.{Net}
 use Rattle.machine.specs.State.{State}
-use Rattle.machine.specs.WholeJob.{programOf, actState, actUnder, Did, goOn}
+use Rattle.machine.specs.WholeJob.{programOf, actState, actUnder, goOn}
 use Rattle.machine.specs.declared.Sample.{Sample}
 use Rattle.machine.specs.declared.Under.{Under}
 

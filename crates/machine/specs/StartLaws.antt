@@ -8,8 +8,8 @@ use lib.ListN.{length, getD, replicate, length-replicate, getD-replicate, List·
 use lib.Seq.{ext-getD}
 use Rattle.network.specs.Lists.{table}
 use Rattle.network.specs.ListLaws.{length-table, getD-table}
-use Rattle.machine.specs.State.{Contents, nothing, startState}
-use Rattle.machine.specs.ChannelTold.{Sound, heldBy, contentsBy}
+use Rattle.machine.specs.State.{nothing, startState}
+use Rattle.machine.specs.ChannelTold.{heldBy, contentsBy}
 use Rattle.machine.specs.Words.{channelAt, contentsIn, stateBy, SoundWords}
 use Rattle.machine.specs.Acting.{Room}
 

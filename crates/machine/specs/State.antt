@@ -4,7 +4,6 @@ use mathlib.Core.Bool.{cond}
 use mathlib.Core.List.{List, [], _∷_, _++_}
 use lib.ListN.{length, getD, set, replicate}
 use lib.Dec.{ltb, eqb}
-use Rattle.network.specs.declared.Channel.{Channel}
 
 -- what a channel holds, oldest first, and how many writes met it full
 pub record Contents : Type 0 where

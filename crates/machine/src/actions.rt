@@ -3,7 +3,6 @@ use crate::Action;
 ghost use mathlib.Core.Path.{_≡_};
 ghost use Prim.Native.Nat.{_<_};
 ghost use Rattle.network.specs.Net.{fourAt};
-ghost use Rattle.network.specs.declared.Four.{Four};
 ghost use Rattle.machine.specs.Actions.{decode};
 
 pub fn decode(head: u32, a: u32, b: u32, c: u32) -> Action

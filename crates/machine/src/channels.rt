@@ -1,9 +1,7 @@
 // A read and a write of one channel.
 use crate::Channel;
-ghost use mathlib.Core.Path.{_≡_};
 ghost use Prim.Native.Nat.{_≤_, _<_};
-ghost use Rattle.machine.specs.State.{afterWrite};
-ghost use Rattle.machine.specs.ChannelTold.{Sound, contentsBy, TakenFrom, PutInto};
+ghost use Rattle.machine.specs.ChannelTold.{Sound, TakenFrom, PutInto};
 
 // What a read gives, and the channel after it.
 pub struct Taken {

@@ -8,7 +8,6 @@ mod transfers;
 mod variables;
 mod words;
 
-ghost use mathlib.Core.Path.{_≡_};
 ghost use Rattle.machine.specs.Acting.{Able, Acted};
 ghost use Rattle.machine.specs.Jobs.{Runs, JobDone};
 

@@ -1,10 +1,9 @@
 -- The code's two words against the marks of the row that an operation gives.
 use mathlib.Core.Path.{_≡_, refl, sym, ap, ap₂, _∙_}
 use mathlib.Core.Logic.{_≢_}
-use mathlib.Core.Bool.{Bool, true, false, cond, not, _&&_, _||_}
+use mathlib.Core.Bool.{Bool, true, false, _&&_, _||_}
 use Prim.Native.Nat.{ℕ, _+_, _-_, _*_, _%_, _^_, _≤_, _<_}
 use native.Mathlib.Nat.{mod-eq-of-lt, one-mul}
-use native.Mathlib.Decide.{decLt}
 use native.Mathlib.Omega.{arith}
 use lib.Bits.{bitAnd, bitOr, bitXor, and-lt, or-lt, xor-lt}
 use lib.Count.{ones}
@@ -13,7 +12,6 @@ use lib.Dec.{eqb}
 use mir.Val.{Fits}
 use mir.Syntax.{w64}
 use borrow.Author.Tests.{eq-eqb, ne-eqb, eqb-true}
-use Rattle.reply.specs.Tools.{count}
 use Rattle.reply.specs.Tests.{clash, both, same-test}
 use Rattle.reply.specs.Counts.{count-same, count-add}
 use Rattle.marks.specs.Row.{bit, marked, withOf, orOf, withoutOf, insideOf, countOf}

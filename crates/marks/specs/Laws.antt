@@ -1,17 +1,17 @@
 -- What each operation does to the marks; rows with the same marks are equal.
 use mathlib.Core.Path.{_≡_, refl, sym, ap, ap₂, _∙_}
 use mathlib.Core.Logic.{_≢_}
-use mathlib.Core.Bool.{Bool, true, false, cond, not, _&&_, _||_}
-use Prim.Native.Nat.{ℕ, zero, suc, _+_, _-_, _^_, _≤_, _<_}
+use mathlib.Core.Bool.{Bool, true, false, not, _&&_, _||_}
+use Prim.Native.Nat.{ℕ, _+_, _-_, _^_, _≤_, _<_}
 use native.Mathlib.Decide.{decLt}
 use native.Mathlib.Omega.{arith}
-use lib.Dec.{ltb, eqb}
+use lib.Dec.{eqb}
 use borrow.Author.Tests.{lt-ltb, le-ltb, eq-eqb, ne-eqb}
-use Rattle.reply.specs.Tools.{all, count}
+use Rattle.reply.specs.Tools.{count}
 use Rattle.reply.specs.Tests.{clash, implies, implies-true}
 use Rattle.reply.specs.AllAny.{all-true, all-make}
 use Rattle.reply.specs.Counts.{count-most}
-use Rattle.marks.specs.Row.{bit, marked, wordOf, rowOf, noMarks, withOf, orOf, withoutOf, insideOf, countOf}
+use Rattle.marks.specs.Row.{bit, marked, rowOf, noMarks, withOf, orOf, withoutOf, insideOf, countOf}
 use Rattle.marks.specs.Words.{word-same, word-small, bit-word, bit-none}
 use Rattle.marks.specs.declared.Row.{Row}
 

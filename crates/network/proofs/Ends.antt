@@ -1,17 +1,16 @@
 -- A channel's ends: judged by rows of marks as by the pairs themselves.
 use Prim.Native.Nat.{ℕ, _≤_, _<_}
-use mathlib.Core.Path.{_≡_, refl, sym, ap, ap₂, _∙_}
-use mathlib.Core.Bool.{Bool, true, false, _&&_, _||_}
+use mathlib.Core.Path.{_≡_, sym, _∙_}
+use mathlib.Core.Bool.{Bool, true, false}
 use mathlib.Core.List.{List}
 use native.Mathlib.Omega.{arith}
 use lib.ListN.{getD}
-use lib.Dec.{eqb}
 use borrow.Author.Tests.{eq-eqb, ne-eqb}
 use mathlib.Core.Logic.{_≢_}
 use Rattle.reply.specs.Tests.{split}
 use Rattle.marks.specs.Row.{marked, noMarks}
 use Rattle.marks.specs.declared.Row.{Row}
-use Rattle.network.specs.Pairs.{isPair, apart, goodEnds}
+use Rattle.network.specs.Pairs.{apart, goodEnds}
 use Rattle.network.specs.PairLaws.{apart-true}
 use Rattle.network.specs.Read.{mostCapacity}
 use Rattle.network.specs.Told.{pairRows, endsBy}

@@ -1,16 +1,16 @@
 -- The entry points: the version, and the writer over the reader.
-use Prim.Native.Nat.{ℕ, suc, _+_, _≤_, _<_}
+use Prim.Native.Nat.{ℕ, _+_, _≤_, _<_}
 use mathlib.Core.Path.{_≡_, refl, sym, ap, _∙_}
 use mathlib.Core.Logic.{_≢_}
-use mathlib.Core.List.{List, [], _∷_, _++_}
+use mathlib.Core.List.{List, [], _∷_}
 use native.Mathlib.Numerals.{add-one}
 use native.Mathlib.Decide.{decLt}
 use native.Mathlib.Omega.{arith}
 use lib.ListN.{length, getD, take, set, length-set}
-use lib.Seq.{sets, take-suc, take-all, length-take-le, length-sets}
+use lib.Seq.{sets, take-suc, take-all, length-take-le}
 use borrow.Author.Tests.{eq-eqb, ne-eqb, le-leb, lt-leb}
 use Rattle.reply.specs.Reply.{replyNumber}
-use Rattle.reply.specs.Result.{Result, done, refused, answerOf, orZero}
+use Rattle.reply.specs.Result.{answerOf}
 use Rattle.reply.specs.ResultLaws.{zero-means, other-means}
 use Rattle.reply.specs.declared.Reply.{Reply}
 use Rattle.reply.specs.declared.Reply.the-variants.{Done, WrongVersion, ShortBuffer}
@@ -20,14 +20,12 @@ use Rattle.number.specs.PutLaws.{sets-append}
 use Rattle.number.specs.Told.{numberOf, value-is, refused-is}
 use Rattle.number.specs.declared.Number.{Number}
 use Rattle.number.specs.declared.Number.the-variants.{Value, Refused}
-use Rattle.network.specs.Net.{Net}
 use Rattle.network.specs.Read.{afterVersion, load, loadedOf, readFile}
 use Rattle.network.specs.Honest.{honest-load}
 use Rattle.network.specs.Write.{encodeNetwork, writing, wrote, wroteTo}
 use Rattle.network.specs.Laid.{Encoded}
 use Rattle.network.specs.declared.Loaded.{Loaded}
 use Rattle.network.specs.declared.Network.{Network}
-use Rattle.network.specs.declared.Written.{Written}
 use Rattle.network.proofs.Tails.{refusedAt}
 
 -- ---- the reader: its first number

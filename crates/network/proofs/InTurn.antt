@@ -1,9 +1,9 @@
 -- Two and four numbers read one after another, each step told by the number before it: together they are the definitions' readings.
 use Prim.Native.Nat.{ℕ}
-use mathlib.Core.Path.{_≡_, refl, sym, ap, _∙_}
-use Rattle.reply.specs.Result.{Result, refused}
+use mathlib.Core.Path.{_≡_, _∙_}
+use Rattle.reply.specs.Result.{Result}
 use Rattle.reply.specs.declared.Reply.{Reply}
-use Rattle.number.specs.Parts.{Part, part, reading}
+use Rattle.number.specs.Parts.{Part, reading}
 use Rattle.number.specs.Told.{numberOf, value-is, refused-is}
 use Rattle.number.specs.declared.Number.{Number}
 use Rattle.number.specs.declared.Number.the-variants.{Value, Refused}

@@ -1,6 +1,6 @@
 -- Pairs as the code keeps them: read one by one, and marked in rows.
-use Prim.Native.Nat.{ℕ, suc, _+_, _≤_, _<_}
-use mathlib.Core.Path.{_≡_, refl, sym, ap, ap₂, subst, _∙_}
+use Prim.Native.Nat.{ℕ, _+_, _≤_, _<_}
+use mathlib.Core.Path.{_≡_, refl, sym, ap, ap₂, _∙_}
 use mathlib.Core.Logic.{_≢_}
 use mathlib.Core.Bool.{Bool, true, false, not, _&&_, _||_}
 use mathlib.Core.List.{List, [], _∷_, _++_}
@@ -10,9 +10,9 @@ use lib.ListN.{length, getD, set, replicate, length-set, length-replicate, getD-
 use lib.Seq.{ext-getD, getD-set-same, getD-set-other}
 use lib.Dec.{eqb}
 use borrow.Author.Tests.{eq-eqb, ne-eqb, eqb-true}
-use Rattle.reply.specs.Tests.{split, same-test}
+use Rattle.reply.specs.Tests.{same-test}
 use Rattle.reply.specs.Result.{Result, done, refused, andThen, require}
-use Rattle.reply.specs.ResultLaws.{accepted, required, refused-not, done-same}
+use Rattle.reply.specs.ResultLaws.{accepted, required}
 use Rattle.reply.specs.declared.Reply.{Reply}
 use Rattle.reply.specs.declared.Reply.the-variants.{BadPair}
 use Rattle.number.specs.Parts.{Part, part, reading, many}
@@ -27,7 +27,7 @@ use Rattle.marks.specs.declared.Row.{Row}
 use Rattle.network.specs.Lists.{table}
 use Rattle.network.specs.ListLaws.{length-table, getD-table}
 use Rattle.network.specs.Pairs.{noPair, samePair, isPair, apart, goodPair}
-use Rattle.network.specs.PairLaws.{apart-true, pair-none, pair-more, good-first, good-later}
+use Rattle.network.specs.PairLaws.{apart-true, pair-none, pair-more, good-first}
 use Rattle.network.specs.Read.{onePair}
 use Rattle.network.specs.Told.{asResult, valueOf, pairRows, pairOf}
 use Rattle.network.specs.declared.Pair.{Pair}

@@ -1,9 +1,9 @@
 -- One number after another: what each branch of the code knows of the definitions' result.
 use Prim.Native.Nat.{ℕ, _≤_, _<_}
-use mathlib.Core.Path.{_≡_, refl, sym, ap, _∙_}
+use mathlib.Core.Path.{_≡_, sym, _∙_}
 use mathlib.Core.List.{List}
 use borrow.Author.Tests.{le-leb, lt-leb}
-use Rattle.reply.specs.Result.{Result, refused}
+use Rattle.reply.specs.Result.{Result}
 use Rattle.reply.specs.declared.Reply.{Reply}
 use Rattle.reply.specs.declared.Reply.the-variants.{OutOfRange}
 use Rattle.number.specs.Parts.{Part, part, reading}

@@ -14,11 +14,9 @@ use Rattle.number.specs.declared.Number.the-variants.{Value, Refused}
 use Rattle.network.specs.Read.{ranged, processPart, oneProcess, mostCapacity, channelPart, channelWith}
 use Rattle.network.specs.Told.{asResult, valueOf, processOf, channelOf}
 use Rattle.network.specs.declared.Process.{Process}
-use Rattle.network.specs.declared.processes.ProcessRead.{ProcessRead}
 use Rattle.network.specs.declared.processes.ProcessRead.the-variants.{Got as GotProcess, Refused as NoProcess}
 use Rattle.reply.specs.declared.Reply.the-variants.{BadChannel}
 use Rattle.network.specs.declared.Channel.{Channel}
-use Rattle.network.specs.declared.channels.ChannelRead.{ChannelRead}
 use Rattle.network.specs.declared.channels.ChannelRead.the-variants.{Got as GotChannel, Refused as NotChannel}
 use Rattle.network.proofs.InTurn.{four}
 

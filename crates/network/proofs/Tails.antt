@@ -1,15 +1,14 @@
 -- The file part after part: a number or a list of records is read, or refused, and the rest follows.
-use Prim.Native.Nat.{ℕ, _≤_, _<_}
-use mathlib.Core.Path.{_≡_, refl, sym, ap, subst, fun-ext, _∙_}
-use mathlib.Core.Bool.{Bool, true, false, not, _&&_}
-use mathlib.Core.List.{List, [], _∷_}
+use Prim.Native.Nat.{ℕ, _≤_}
+use mathlib.Core.Path.{_≡_, sym, ap, subst, fun-ext, _∙_}
+use mathlib.Core.Bool.{Bool, true, false, _&&_}
+use mathlib.Core.List.{List}
 use native.Mathlib.Omega.{arith}
-use lib.ListN.{length, getD, take, replicate}
+use lib.ListN.{getD, take, replicate}
 use lib.Dec.{leb}
 use borrow.Author.Tests.{leb-true}
 use Rattle.reply.specs.Tools.{any}
 use Rattle.reply.specs.Tests.{clash, both}
-use Rattle.reply.specs.AllAny.{any-same}
 use Rattle.reply.specs.Result.{Result, done, refused, answerOf, orZero}
 use Rattle.reply.specs.ResultLaws.{accepted, required}
 use Rattle.reply.specs.declared.Reply.{Reply}

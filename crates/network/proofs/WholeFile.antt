@@ -1,18 +1,17 @@
 -- The end of the file: the programs, no byte left over, and the network as the struct.
 use Prim.Native.Nat.{ℕ, _≤_, _<_}
-use mathlib.Core.Path.{_≡_, refl, sym, ap, subst, _∙_}
+use mathlib.Core.Path.{_≡_, sym, ap, subst, _∙_}
 use mathlib.Core.List.{List}
 use lib.ListN.{length, take}
 use borrow.Author.Tests.{le-leb, lt-leb}
-use Rattle.reply.specs.Result.{Result, done, refused}
 use Rattle.reply.specs.declared.Reply.{Reply}
 use Rattle.reply.specs.declared.Reply.the-variants.{Done, BytesLeft}
-use Rattle.number.specs.Parts.{Part, part, many}
+use Rattle.number.specs.Parts.{many}
 use Rattle.network.specs.Lists.{fillTo}
 use Rattle.network.specs.ListLaws.{take-fill}
 use Rattle.network.specs.Frame.{noProcess}
 use Rattle.network.specs.Pairs.{noPair}
-use Rattle.network.specs.Net.{Net, noChannel, fill}
+use Rattle.network.specs.Net.{noChannel, fill}
 use Rattle.network.specs.Read.{oneProgram, afterChannels, loadedOf}
 use Rattle.network.specs.Told.{Filled}
 use Rattle.network.specs.ProgramsTold.{ProgramsTold}

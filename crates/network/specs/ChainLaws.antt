@@ -1,6 +1,6 @@
 -- `chains` decides `Chain`: a chain leads from a to b exactly when `chains` holds there.
-use Prim.Native.Nat.{ℕ, zero, suc, _+_, _≤_, _<_}
-use mathlib.Core.Path.{_≡_, refl, sym, ap, subst, _∙_}
+use Prim.Native.Nat.{ℕ, zero, suc, _≤_, _<_}
+use mathlib.Core.Path.{_≡_, sym, ap, subst, _∙_}
 use mathlib.Core.Logic.{_⊎_, inl, inr}
 use mathlib.Core.Bool.{Bool, true, false, _&&_, _||_}
 use mathlib.Core.List.{List, []}
@@ -10,7 +10,7 @@ use lib.ListN.{getD}
 use Rattle.reply.specs.Tests.{clash, either, both, either-true, both-true}
 use Rattle.network.specs.Lists.{table}
 use Rattle.network.specs.ListLaws.{getD-table, getD-table-past}
-use Rattle.network.specs.Chains.{Chain, one, more, Relation, holds, relation, through, chains}
+use Rattle.network.specs.Chains.{Chain, one, more, holds, relation, through, chains}
 
 -- ---- relations
 

@@ -1,15 +1,14 @@
 -- Laws of pairs: which processes are apart, and a pair among one pair more.
 use Prim.Native.Nat.{ℕ, suc, _+_, _≤_, _<_}
-use mathlib.Core.Path.{_≡_, refl, sym, ap, ap₂, _∙_}
+use mathlib.Core.Path.{_≡_, refl, ap, ap₂, _∙_}
 use mathlib.Core.Logic.{_≢_}
 use mathlib.Core.Bool.{Bool, true, false, not, _&&_, _||_}
 use mathlib.Core.List.{List, [], _∷_, _++_}
 use native.Mathlib.Omega.{arith}
-use lib.ListN.{length, getD, length-append, List·getD-append}
+use lib.ListN.{length, length-append, List·getD-append}
 use lib.Seq.{getD-append-seam}
 use lib.Dec.{ltb, eqb}
 use borrow.Author.Tests.{lt-ltb, le-ltb, ltb-true, eqb-false, not-true}
-use Rattle.reply.specs.Tools.{any}
 use Rattle.reply.specs.Tests.{both}
 use Rattle.reply.specs.AllAny.{any-zero, any-suc, any-same}
 use Rattle.network.specs.Pairs.{noPair, samePair, isPair, apart, goodPair}

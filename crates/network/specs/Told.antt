@@ -1,12 +1,11 @@
 -- The code's answers, from the results of the definitions.
-use Prim.Native.Nat.{ℕ, _+_}
+use Prim.Native.Nat.{ℕ}
 use mathlib.Core.Path.{_≡_}
 use mathlib.Core.Bool.{Bool, true, false, _&&_, _||_}
 use mathlib.Core.List.{List}
 use lib.ListN.{length, getD, replicate}
 use Rattle.reply.specs.Result.{Result, done, refused, answerOf, orZero}
-use Rattle.reply.specs.declared.Reply.{Reply}
-use Rattle.number.specs.Parts.{Part, part, reading}
+use Rattle.number.specs.Parts.{Part, part}
 use Rattle.number.specs.declared.Number.{Number}
 use Rattle.number.specs.declared.Number.the-variants.{Value, Refused}
 use Rattle.marks.specs.Row.{marked, rowOf, noMarks}
@@ -18,7 +17,6 @@ use Rattle.network.specs.Net.{noChannel}
 use Rattle.network.specs.declared.Process.{Process}
 use Rattle.network.specs.declared.Pair.{Pair}
 use Rattle.network.specs.declared.Channel.{Channel}
-use Rattle.network.specs.declared.Four.{Four}
 use Rattle.network.specs.declared.processes.ProcessRead.{ProcessRead}
 use Rattle.network.specs.declared.processes.ProcessRead.the-variants.{Got as GotProcess, Refused as NoProcess}
 use Rattle.network.specs.declared.processes.ProcessesRead.{ProcessesRead}

@@ -1,20 +1,18 @@
 -- What is read as a number is exactly the encoding of its value: so each number has one form. Where a number ends; and which refusals there are.
 use mathlib.Core.Path.{_≡_, refl, sym, ap, _∙_}
 use mathlib.Core.Logic.{_⊎_, inl, inr, ⊎-elim}
-use mathlib.Core.Bool.{Bool, true, false, cond}
 use mathlib.Core.List.{List, [], _∷_, _++_, append-nil}
 use Prim.Native.Nat.{ℕ, zero, suc, _+_, _-_, _*_, _/_, _%_, _^_, _≤_, _<_}
 use native.Mathlib.Nat.{pow-succ', one-le-pow}
 use native.Mathlib.Decide.{decLt}
 use native.Mathlib.Omega.{arith}
-use lib.ListN.{length, drop, length-drop, length-append}
+use lib.ListN.{length, drop, length-drop}
 use lib.Seq.{drop-append-seam, drop-drop, drop-length, getD-drop}
 use lib.Dec.{ltb, leb, eqb}
 use borrow.Author.Tests.{lt-ltb, le-ltb, leb-true, eqb-false}
 use Rattle.reply.specs.Tests.{split}
 use Rattle.reply.specs.Result.{Result, done, refused}
 use Rattle.reply.specs.ResultLaws.{accepted, refused-not, Honest, honest-done, honest-refused}
-use Rattle.reply.specs.declared.Reply.{Reply}
 use Rattle.reply.specs.declared.Reply.the-variants.{FileEnds, MalformedNumber}
 use Rattle.number.specs.Parts.{Part, part}
 use Rattle.number.specs.PartLaws.{same-part}

@@ -1,13 +1,13 @@
 -- Laws of reading part by part, for every loop and every proof over such readings.
-use Prim.Native.Nat.{ℕ, zero, suc, _+_, _-_, _≤_, _<_}
-use mathlib.Core.Path.{_≡_, refl, sym, ap, subst, _∙_}
+use Prim.Native.Nat.{ℕ, zero, suc, _+_, _-_, _<_}
+use mathlib.Core.Path.{_≡_, refl, subst, _∙_}
 use mathlib.Core.List.{List, [], _∷_, _++_}
 use native.Mathlib.Omega.{arith}
 use lib.ListN.{length, length-append}
 use Rattle.reply.specs.Result.{Result, done, refused}
 use Rattle.reply.specs.ResultLaws.{accepted, done-same, Honest, honest-done, honest-then}
 use Rattle.reply.specs.declared.Reply.{Reply}
-use Rattle.number.specs.Parts.{Part, part, reading, many}
+use Rattle.number.specs.Parts.{Part, part, many}
 
 -- what holds of a part that was made holds of the part that was asked for
 pub same-part : {A : Type 0} (x y : Part A) (P : A → ℕ → Type 0) → done x ≡ done y → P (x .it) (x .next) → P (y .it) (y .next)

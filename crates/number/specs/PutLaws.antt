@@ -1,6 +1,6 @@
 -- Laws of filling a buffer from a position on.
-use Prim.Native.Nat.{ℕ, zero, suc, _+_, _≤_, _<_}
-use mathlib.Core.Path.{_≡_, refl, sym, _∙_}
+use Prim.Native.Nat.{ℕ, suc, _+_, _≤_, _<_}
+use mathlib.Core.Path.{_≡_, sym, _∙_}
 use mathlib.Core.List.{List, [], _∷_, _++_}
 use native.Mathlib.Decide.{decLt}
 use native.Mathlib.Nat.{add-zero, add-suc, suc-add}
@@ -8,7 +8,7 @@ use native.Mathlib.Omega.{arith}
 use lib.ListN.{length, length-append, set}
 use lib.Seq.{sets, length-sets}
 use borrow.Author.Tests.{le-leb, lt-leb}
-use Rattle.reply.specs.Result.{Result, done, refused, andThen}
+use Rattle.reply.specs.Result.{done, refused, andThen}
 use Rattle.reply.specs.declared.Reply.the-variants.{ShortBuffer}
 use Rattle.number.specs.Put.{putAt, after}
 

@@ -2,14 +2,14 @@
 use Prim.Native.Nat.{ℕ, suc, _+_, _-_, _*_, _≤_, _<_}
 use mathlib.Core.Path.{_≡_, refl, sym, ap, ap₂, subst, _∙_}
 use mathlib.Core.List.{List, [], _++_, append-assoc, append-nil}
-use native.Mathlib.Nat.{mul-comm, mul-assoc, mul-le-mul, mul-le-mul-right, suc-mul, mul-suc, zero-add}
+use native.Mathlib.Nat.{mul-comm, mul-assoc, mul-le-mul, mul-le-mul-right, suc-mul, mul-suc}
 use native.Mathlib.Numerals.{add-one}
 use native.Mathlib.Omega.{arith}
 use lib.ListN.{length, getD, take, drop, length-drop, drop-of-length-le}
 use lib.Seq.{sets, length-sets, sets-eq, drop-drop, getD-take, length-take-le}
 use borrow.Rule.Slice.PartMut.{putMid}
 use Rattle.number.specs.PutLaws.{sets-append}
-use Rattle.graph.specs.Work.{Work, processOf, jobCountOf}
+use Rattle.graph.specs.Work.{Work, processOf}
 use Rattle.machine.specs.State.{State, nothing, contentsOf}
 use Rattle.machine.specs.Samples.{sampleAt}
 use Rattle.machine.specs.Words.{contentsIn, stateBy, SoundWords}

@@ -1,5 +1,5 @@
 -- The frame of a valid network has all that a run needs, and a run on it is the run of the network's work.
-use Prim.Native.Nat.{ℕ, _+_, _*_, _≤_, _<_, _^_}
+use Prim.Native.Nat.{ℕ, _*_, _≤_, _<_}
 use mathlib.Core.Path.{_≡_, refl, sym, ap, subst, _∙_}
 use mathlib.Core.List.{List, map}
 use native.Mathlib.Nat.{mul-le-mul}
@@ -14,8 +14,7 @@ use Rattle.reply.specs.declared.Answer.{Answer}
 use Rattle.reply.specs.declared.Reply.{Reply}
 use Rattle.reply.specs.declared.Reply.the-variants.{Done, OutOfRange, ShortBuffer}
 use Rattle.network.specs.ListLaws.{fill-at}
-use Rattle.network.specs.Net.{Net, fill, within}
-use Rattle.network.specs.Valid.{Valid}
+use Rattle.network.specs.Net.{fill, within}
 use Rattle.roundtrip.specs.Promise.{within-fill}
 use Rattle.graph.specs.Sequence.{noJob}
 use Rattle.graph.specs.Work.{Work, workOf, loadWork, jobCountOf, processOf}
@@ -27,7 +26,6 @@ use Rattle.graph.specs.Promise.{jobs-are, file-work}
 use Rattle.graph.specs.declared.Job.{Job}
 use Rattle.graph.specs.declared.Framed.{Framed}
 use Rattle.machine.specs.State.{State}
-use Rattle.machine.specs.WholeJob.{programOf}
 use Rattle.machine.specs.Ledger.{valid-short}
 use Rattle.machine.specs.HeldOf.{heldOf}
 use Rattle.machine.specs.Samples.{okSamples}
@@ -35,7 +33,6 @@ use Rattle.machine.specs.SampleLaws.{honest-samples}
 use Rattle.machine.specs.Words.{stateBy, contentsIn}
 use Rattle.machine.specs.StartLaws.{noWords, start-sound, start-state, start-room}
 use Rattle.machine.specs.Acting.{KindsTold}
-use Rattle.machine.specs.Jobs.{ProgramIs, Runnable}
 use Rattle.machine.specs.TableLaws.{kinds-are, capacities-are, programs-are, counts-are, runnable-are}
 use Rattle.zero_delay.specs.declared.Ran.{Ran}
 use Rattle.zero_delay.specs.ZeroDelay.{Sofar, ranJobs, runWork, zeroDelay, processIn, jobsDone, ranOf, filledBy}

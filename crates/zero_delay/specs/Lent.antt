@@ -1,5 +1,5 @@
 -- What the code of the run is lent, and what it leaves: the tables of a network's work, and variables, words and output after jobs.
-use Prim.Native.Nat.{ℕ, _+_, _*_, _≤_, _<_}
+use Prim.Native.Nat.{ℕ, _*_, _≤_, _<_}
 use mathlib.Core.Path.{_≡_}
 use mathlib.Core.List.{List}
 use lib.ListN.{length, getD}

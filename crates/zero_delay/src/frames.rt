@@ -1,6 +1,5 @@
 // The jobs of the frames, one after another in sequence.
 use machine::samples;
-ghost use mathlib.Core.Path.{_≡_};
 ghost use Prim.Native.Nat.{_*_, _≤_};
 ghost use lib.ListN.{length};
 ghost use Rattle.machine.specs.Words.{SoundWords};

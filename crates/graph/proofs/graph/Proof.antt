@@ -1,6 +1,5 @@
 -- `graph` meets its contract: the frame of the file, and the reduction of its rows.
 use borrow.Author.Needs.{needs}
-use mathlib.Core.Path.{subst}
 use Rattle.graph.specs.FileLaws.{frame-forward, graph-is}
 use Rattle.graph.proofs.graph.Statement.{statement}
 use Rattle.graph.proofs.graph.Tie as tie

@@ -1,5 +1,4 @@
 -- `job` meets its contract: action after action, until the end of the program.
-use borrow.Author.Needs.{needs}
 use native.Mathlib.Omega.{arith}
 use Prim.Native.Nat.{_-_}
 use Rattle.machine.proofs.JobLoop.{Going, start, able, forward, turn, finish}

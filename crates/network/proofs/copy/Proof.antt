@@ -1,6 +1,5 @@
 -- `copy` meets its contract. The loop's invariant is `Copied`; the measure, the bytes still to copy.
 use borrow.Author.Needs.{needs}
-use native.Mathlib.Omega.{arith}
 use Prim.Native.Nat.{_≤_, _-_}
 use lib.ListN.{length}
 use Rattle.network.proofs.EntryPoints.{Copied, copy-start, copy-more, copy-done}

@@ -1,6 +1,5 @@
 -- `run_admitted` meets its contract: the tables are those of the network, and the frames are run on them.
 use borrow.Author.Needs.{needs}
-use native.Mathlib.Omega.{arith}
 use Rattle.zero_delay.specs.CallLaws.{ready, frames-ready, result-is, filled-is}
 use Rattle.zero_delay.proofs.run_admitted.Statement.{statement}
 use Rattle.zero_delay.proofs.run_admitted.Tie as tie

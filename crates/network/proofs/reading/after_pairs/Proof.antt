@@ -1,6 +1,5 @@
 -- `reading::after_pairs` meets its contract: a number in its range, and the rest after it.
 use borrow.Author.Needs.{needs}
-use native.Mathlib.Omega.{arith}
 use Rattle.network.proofs.Tails.{ranged-most, pairs-on, pairs-cut}
 use Rattle.network.proofs.reading.after_pairs.Statement.{statement}
 use Rattle.network.proofs.reading.after_pairs.Tie as tie

@@ -1,6 +1,5 @@
 -- `reading::after_processes` meets its contract: a number in its range, and the rest after it.
 use borrow.Author.Needs.{needs}
-use native.Mathlib.Omega.{arith}
 use Rattle.network.proofs.Tails.{ranged-most, processes-on, processes-cut}
 use Rattle.network.proofs.reading.after_processes.Statement.{statement}
 use Rattle.network.proofs.reading.after_processes.Tie as tie

@@ -1,6 +1,5 @@
 -- `reading::after_version` meets its contract: a number in its range, and the rest after it.
 use borrow.Author.Needs.{needs}
-use native.Mathlib.Omega.{arith}
 use Rattle.network.proofs.Tails.{ranged-most, version-on, version-cut}
 use Rattle.network.proofs.reading.after_version.Statement.{statement}
 use Rattle.network.proofs.reading.after_version.Tie as tie
