@@ -1,7 +1,9 @@
 -- What the struct of a channel says: the values that it holds, from its head on, round its eight places.
 use Prim.Native.Nat.{ℕ, _+_, _≤_, _<_, _%_}
 use mathlib.Core.Path.{_≡_}
-use mathlib.Core.List.{List}
+use mathlib.Core.Bool.{cond}
+use mathlib.Core.List.{List, [], _∷_}
+use lib.Dec.{eqb}
 use lib.ListN.{length, getD}
 use Rattle.network.specs.Lists.{table}
 use Rattle.machine.specs.State.{Contents, oldest, flag, afterRead, afterWrite}
@@ -31,3 +33,12 @@ pub record TakenFrom (c : Channel) (kind : ℕ) (r : Taken) : Type 0 where
 pub record PutInto (c : Channel) (kind capacity value : ℕ) (r : Channel) : Type 0 where
   pub sound : Sound r
   pub contents : contentsBy r ≡ afterWrite kind capacity value (contentsBy c)
+
+-- eight values, place by place, with a new one at a place
+abbrev pub placed : List ℕ → ℕ → ℕ → List ℕ
+placed values at value =
+    cond (eqb at 0) value (getD values 0 0) ∷ cond (eqb at 1) value (getD values 1 0)
+    ∷ cond (eqb at 2) value (getD values 2 0) ∷ cond (eqb at 3) value (getD values 3 0)
+    ∷ cond (eqb at 4) value (getD values 4 0) ∷ cond (eqb at 5) value (getD values 5 0)
+    ∷ cond (eqb at 6) value (getD values 6 0) ∷ cond (eqb at 7) value (getD values 7 0)
+    ∷ []

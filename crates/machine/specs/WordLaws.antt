@@ -13,6 +13,7 @@ use Rattle.network.specs.Lists.{table}
 use Rattle.network.specs.ListLaws.{length-table, getD-table}
 use Rattle.network.specs.ChainsSame.{table-same}
 use Rattle.machine.specs.State.{Contents, nothing}
+use Rattle.machine.specs.ChannelLaws.{table-list}
 use Rattle.machine.specs.ChannelTold.{Sound, contentsBy, TakenFrom, PutInto}
 use Rattle.machine.specs.Words.{channelAt, numbersOf, stored, channelFrom, storedFrom, contentsIn, SoundWords, ReadFrom, WrittenTo}
 use Rattle.machine.specs.declared.Channel.{Channel}
@@ -35,10 +36,6 @@ sets-inside (v ∷ vs) l i (suc k) h b = rw (add-suc i k, ← suc-add i k) (sets
 pub loaded-is : (words : List ℕ) (i : ℕ) → channelFrom words (i * 12) ≡ channelAt words i
 unfolding channelAt table
 loaded-is words i = rw (add-zero (i * 12))
-
-table-list : (l : List ℕ) (n : ℕ) → length l ≡ n → table n (λ k. getD l k 0) ≡ l
-table-list l n e =
-    ext-getD 0 (table n (λ k. getD l k 0)) l (length-table n _ ∙ sym e) (λ i h. getD-table n _ i 0 (omega (arith, length-table n (λ k. getD l k 0))))
 
 -- a channel's numbers, the values one by one
 abbrev oneByOne : Channel → List ℕ

@@ -1,7 +1,10 @@
 // A read and a write of one channel.
 use crate::Channel;
+ghost use mathlib.Core.Path.{_≡_};
+ghost use mathlib.Core.Bool.{cond};
 ghost use Prim.Native.Nat.{_≤_, _<_};
-ghost use Rattle.machine.specs.ChannelTold.{Sound, TakenFrom, PutInto};
+ghost use lib.Dec.{eqb};
+ghost use Rattle.machine.specs.ChannelTold.{Sound, TakenFrom, PutInto, placed};
 
 // What a read gives, and the channel after it.
 pub struct Taken {
@@ -42,6 +45,29 @@ pub fn take(channel: Channel, kind: u32) -> Taken
     }
 }
 
+// `new` at place `at`, and else `old`.
+fn pick(at: u32, place: u32, new: u32, old: u32) -> u32
+    ensures { λ r. ⌜ r ≡ cond (eqb at place) new old ⌝ }
+{
+    if at == place { new } else { old }
+}
+
+// The values with a new one at a place. Each place is chosen for itself, so that the eight stay in registers.
+fn with_value(values: [u32; 8], at: u32, value: u32) -> [u32; 8]
+    ensures { λ r. ⌜ r ≡ placed values at value ⌝ }
+{
+    [
+        pick(at, 0, value, values[0]),
+        pick(at, 1, value, values[1]),
+        pick(at, 2, value, values[2]),
+        pick(at, 3, value, values[3]),
+        pick(at, 4, value, values[4]),
+        pick(at, 5, value, values[5]),
+        pick(at, 6, value, values[6]),
+        pick(at, 7, value, values[7]),
+    ]
+}
+
 // A board has the value in place of its last; a queue has it after all others, or is full and counts a loss.
 pub fn put(channel: Channel, kind: u32, capacity: u32, value: u32) -> Channel
     requires { ⌜ Sound channel × (capacity ≤ 8) × (channel .loss < 4294967295) ⌝ }
@@ -49,15 +75,17 @@ pub fn put(channel: Channel, kind: u32, capacity: u32, value: u32) -> Channel
 {
     let mut after = channel;
     let head = channel.head;
+    let values = channel.values;
     if kind == 1 {
-        after.values[head as usize] = value;
+        let written = with_value(values, head, value);
+        after.values = written;
         after.length = 1;
         return after;
     }
     let held = channel.length;
     if held < capacity {
-        let at = ((head + held) % 8) as usize;
-        after.values[at] = value;
+        let written = with_value(values, (head + held) % 8, value);
+        after.values = written;
         after.length = held + 1;
         return after;
     }
