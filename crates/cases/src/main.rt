@@ -2,12 +2,17 @@
 // Each prints a line; the whole is held to the crate's file `stdout`.
 mod files;
 mod graphs;
+mod lent;
 mod longest;
 mod numbers;
 mod print;
+mod ran;
+mod runs;
 
 fn main() {
     numbers::run();
     files::run();
     graphs::run();
+    runs::run();
+    lent::run();
 }
