@@ -57,12 +57,13 @@ pub extern "C" fn fppn_read(file: &[u8]) -> FppnLoaded
     ensures { λ r. ⌜ r ≡ loadedFrom (readFile (now (file .entry))) ⌝ }
 {
     let loaded = network::read(file);
-    let answer = loaded.answer;
     let network = loaded.network;
+    let answer = loaded.answer;
     let reply = answer.reply;
+    let number = reply::number(reply);
     FppnLoaded {
-        reply: reply::number(reply),
-        place: answer.place,
+        reply: number,
+        place: loaded.answer.place,
         network,
     }
 }
@@ -78,7 +79,7 @@ pub extern "C" fn fppn_write(network: Network, out: &mut [u8]) -> FppnWritten
     let reply = answer.reply;
     FppnWritten {
         reply: reply::number(reply),
-        place: answer.place,
+        place: written.answer.place,
         length: written.length,
     }
 }
@@ -99,7 +100,7 @@ pub extern "C" fn fppn_graph(file: &[u8]) -> FppnGraphResult
     let budget = columns::budgets(jobs);
     FppnGraphResult {
         reply: reply::number(reply),
-        place: answer.place,
+        place: graph.answer.place,
         jobs: graph.job_count,
         frame: graph.frame,
         edges: graph.edges,
@@ -129,7 +130,7 @@ pub extern "C" fn fppn_zero_delay(
     let channels = ran.channels;
     FppnRan {
         reply: reply::number(reply),
-        place: answer.place,
+        place: ran.answer.place,
         variables,
         channels,
     }
