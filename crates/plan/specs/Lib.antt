@@ -1,0 +1,10 @@
+pub mod Greatest
+pub mod Plan
+pub mod Opens
+pub mod Examples
+pub mod Feasible
+pub mod CheckLaws
+pub mod StartLaws
+pub mod PlaceLaws
+pub mod PlannerLaws
+pub mod Promise

@@ -1,0 +1,1 @@
+// Plans: the planner and the plan checker. So far the crate has only their definitions and what is promised of them.
