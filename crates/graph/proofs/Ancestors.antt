@@ -1,9 +1,10 @@
 -- The loop over the jobs in rising order: the ancestors of each, and which of its predecessors keep their edge.
 use Prim.Native.Nat.{ℕ, _+_, _≤_, _<_, zero, suc}
-use mathlib.Core.Path.{_≡_, ap, ap₂, _∙_}
+use mathlib.Core.Path.{_≡_, sym, ap, ap₂, _∙_}
 use mathlib.Core.Logic.{_⊎_, inl, inr, ⊎-elim}
 use mathlib.Core.Bool.{Bool, true, not, _&&_, _||_}
 use mathlib.Core.List.{List}
+use native.Mathlib.Decide.{decLt}
 use native.Mathlib.Omega.{arith}
 use lib.ListN.{getD, set, replicate}
 use borrow.Author.Tests.{not-true}
@@ -11,10 +12,10 @@ use Rattle.reply.specs.Tools.{any}
 use Rattle.reply.specs.Tests.{split, clash, either, both, both-true, either-true, same-test}
 use Rattle.reply.specs.AllAny.{any-true, any-make, any-same}
 use Rattle.marks.specs.Row.{marked, noMarks, rowOf, orOf, withoutOf}
-use Rattle.marks.specs.Laws.{marked-row, rows-same}
+use Rattle.marks.specs.Laws.{marked-row, marked-past, marked-none, rows-same}
 use Rattle.marks.specs.declared.Row.{Row}
 use Rattle.network.specs.Lists.{table, fillTo}
-use Rattle.network.specs.ListLaws.{getD-table, fill-at}
+use Rattle.network.specs.ListLaws.{getD-table, getD-table-past, fill-at}
 use Rattle.network.specs.Chains.{Chain, one, more, Relation, holds, through, chains}
 use Rattle.network.specs.ChainLaws.{relation-within, chain-join, chains-sound, chains-complete}
 use Rattle.graph.specs.Graph.{reductionOf, rowsTo}
@@ -109,31 +110,59 @@ module _ (n : ℕ) (before : List Row) (size : n ≤ 128) (earlier : Earlier n b
   forward : Forward n held
   forward = held-forward n before earlier
 
-  module _ (j : ℕ) (ancestors edges : List Row) (h : j < n) (s : ReducedSoFar n before j ancestors edges) (far : Row) (g : far ≡ gathered j ancestors (getD before j noMarks)) where
+  module _ (j : ℕ) (ancestors edges : List Row) (h : j < n) (s : ReducedSoFar n before j ancestors edges) where
     ancestor-row : (k : ℕ) → k < j → getD ancestors k noMarks ≡ rowOf (λ i. holds (chains n (holds held)) i k)
     ancestor-row k l = rw (s .ancestors-so-far) (fill-at 128 noMarks (table j _) k ∙ getD-table j _ k noMarks l)
 
-    far-marks : (i : ℕ) → i < 128 → marked far i ≡ any j (over n held forward i j)
-    unfolding gathered
-    far-marks i hi =
-        ap (λ (r : Row). marked r i) g
-        ∙ marked-row _ i hi
-        ∙ any-same j _ _ (λ k l. ap₂ (λ s t. s && t) (row-holds n before earlier k j h) (ap (λ (r : Row). marked r i) (ancestor-row k l) ∙ marked-row _ i hi))
+    marks-path : (k i : ℕ) → k < j → marked (getD ancestors k noMarks) i ≡ true → holds (chains n (holds held)) i k ≡ true
+    marks-path k i l t = elim (decLt i 128) [
+      | yes b ↦ sym (ap (λ (r : Row). marked r i) (ancestor-row k l) ∙ marked-row _ i b) ∙ t
+      | no b ↦ absurd (clash t (marked-past (getD ancestors k noMarks) i (omega arith)))
+    ]
 
-    reached-row : orOf (getD before j noMarks) far ≡ rowOf (λ i. holds (chains n (holds held)) i j)
-    unfolding orOf
-    reached-row = rows-same _ _ (λ i hi. rw (row-holds n before earlier i j h, far-marks i hi) (ancestors-are n held forward i j))
+    ancestor-below : (k i : ℕ) → marked (getD ancestors k noMarks) i ≡ true → k < j
+    ancestor-below k i t = elim (decLt k j) [
+      | yes l ↦ l
+      | no l ↦
+          let none : getD ancestors k noMarks ≡ noMarks = rw (s .ancestors-so-far) (fill-at 128 noMarks (table j _) k ∙ getD-table-past j _ k noMarks (omega arith)) in
+          absurd (clash t (ap (λ (r : Row). marked r i) none ∙ marked-none i))
+    ]
 
-    kept-row : withoutOf (getD before j noMarks) far ≡ rowOf (λ i. holds (reductionOf n held) i j)
-    unfolding withoutOf
-    kept-row = rows-same _ _ (λ i hi. rw (row-holds n before earlier i j h, far-marks i hi) (kept-are n held forward i j))
+    -- the ancestors of an ancestor are ancestors
+    pub ancestors-join : (i k x : ℕ) → i < j → marked (getD ancestors i noMarks) k ≡ true → marked (getD ancestors k noMarks) x ≡ true
+        → marked (getD ancestors i noMarks) x ≡ true
+    ancestors-join i k x l a b =
+        let up : Chain (holds held) x k = path-of n held forward x k (marks-path k x (ancestor-below k x b) b) in
+        let near : Chain (holds held) k i = path-of n held forward k i (marks-path i k l a) in
+        let p : holds (chains n (holds held)) x i ≡ true = chains-complete n (holds held) (forward .within) (chain-join up near) in
+        let w : x < n = paths-within n held forward x i p .0 in
+        ap (λ (r : Row). marked r x) (ancestor-row i l) ∙ marked-row _ x (omega arith) ∙ p
 
-    pub reduction-goes-on : (reached kept : Row) → reached ≡ orOf (getD before j noMarks) far → kept ≡ withoutOf (getD before j noMarks) far
-        → ReducedSoFar n before (j + 1) (set ancestors j reached) (set edges j kept)
-    reduction-goes-on reached kept r k = record {
-      ancestors-so-far = stores-go-on _ j ancestors reached (omega arith) (s .ancestors-so-far) (r ∙ reached-row);
-      edges-so-far = stores-go-on _ j edges kept (omega arith) (s .edges-so-far) (k ∙ kept-row);
-    }
+    pub predecessor-below : (k : ℕ) → marked (getD before j noMarks) k ≡ true → k < j
+    predecessor-below k t = earlier .earlier k j h t
+
+    module _ (far : Row) (g : far ≡ gathered j ancestors (getD before j noMarks)) where
+      far-marks : (i : ℕ) → i < 128 → marked far i ≡ any j (over n held forward i j)
+      unfolding gathered
+      far-marks i hi =
+          ap (λ (r : Row). marked r i) g
+          ∙ marked-row _ i hi
+          ∙ any-same j _ _ (λ k l. ap₂ (λ s t. s && t) (row-holds n before earlier k j h) (ap (λ (r : Row). marked r i) (ancestor-row k l) ∙ marked-row _ i hi))
+
+      reached-row : orOf (getD before j noMarks) far ≡ rowOf (λ i. holds (chains n (holds held)) i j)
+      unfolding orOf
+      reached-row = rows-same _ _ (λ i hi. rw (row-holds n before earlier i j h, far-marks i hi) (ancestors-are n held forward i j))
+
+      kept-row : withoutOf (getD before j noMarks) far ≡ rowOf (λ i. holds (reductionOf n held) i j)
+      unfolding withoutOf
+      kept-row = rows-same _ _ (λ i hi. rw (row-holds n before earlier i j h, far-marks i hi) (kept-are n held forward i j))
+
+      pub reduction-goes-on : (reached kept : Row) → reached ≡ orOf (getD before j noMarks) far → kept ≡ withoutOf (getD before j noMarks) far
+          → ReducedSoFar n before (j + 1) (set ancestors j reached) (set edges j kept)
+      reduction-goes-on reached kept r k = record {
+        ancestors-so-far = stores-go-on _ j ancestors reached (omega arith) (s .ancestors-so-far) (r ∙ reached-row);
+        edges-so-far = stores-go-on _ j edges kept (omega arith) (s .edges-so-far) (k ∙ kept-row);
+      }
 
 pub reduction-ends : (n : ℕ) (before : List Row) (j : ℕ) (ancestors edges : List Row) → j ≤ n → n ≤ j → ReducedSoFar n before j ancestors edges
     → edges ≡ fillTo 128 noMarks (rowsTo n (reductionOf n (heldTo n before)))

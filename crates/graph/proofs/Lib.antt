@@ -2,6 +2,7 @@ mod Ancestors
 mod BeforeJobs
 mod FreeLoops
 mod Gathering
+mod Marks
 mod RelativeMarks
 mod ReleasedLoop
 mod SequenceLoops

@@ -1,11 +1,13 @@
 -- The loops that fill the table: the jobs of one time taken one after another, and the times of the frame.
-use Prim.Native.Nat.{ℕ, _+_, _-_, _≤_, _<_}
+use Prim.Native.Nat.{ℕ, zero, suc, _+_, _-_, _≤_, _<_}
 use mathlib.Core.Path.{_≡_, refl, sym, ap, subst, _∙_}
+use mathlib.Core.Bool.{false}
 use mathlib.Core.List.{List, [], _∷_, _++_, map, append-assoc, append-nil}
 use native.Mathlib.Numerals.{add-one}
 use native.Mathlib.Omega.{arith}
 use lib.ListN.{length, getD, set, take, replicate, length-append, length-set}
 use lib.Seq.{getD-take, length-take-le, take-set-lt}
+use Rattle.reply.specs.Counts.{sum-none}
 use Rattle.marks.specs.declared.Row.{Row}
 use Rattle.network.specs.Lists.{fillTo}
 use Rattle.network.specs.ListLaws.{fill-none, fill-store}
@@ -13,8 +15,9 @@ use Rattle.network.specs.Frame.{noProcess, processAt}
 use Rattle.network.specs.Chains.{Relation}
 use Rattle.network.specs.declared.Process.{Process}
 use Rattle.graph.specs.Order.{rowRelation}
-use Rattle.graph.specs.Sequence.{noJob, releasedNow, nextFree, taken, takeJobs, jobAt, pendingCount, jobsReleased, sequenceTo}
-use Rattle.graph.specs.SequenceTold.{jobFrom, GoodProcesses, TellsReleased, HoldsJobs, TakesReleased, FitsTable}
+use Rattle.graph.specs.Sequence.{noJob, releasedAt, releasedNow, nextFree, taken, takeJobs, jobAt, pendingCount, jobsReleased, sequenceTo}
+use Rattle.graph.specs.Releases.{released-count}
+use Rattle.graph.specs.SequenceTold.{jobFrom, GoodProcesses, TellsReleased, HoldsJobs, FitsTable}
 use Rattle.graph.specs.declared.Job.{Job}
 use Rattle.graph.specs.declared.sequence.Jobs.{Jobs}
 use Rattle.graph.specs.declared.sequence.Released.{Released}
@@ -50,14 +53,15 @@ pub record Taking (n : ℕ) (processes : List Process) (ahead : List Row) (time 
   pub next : p ≡ nextFree (rowRelation n ahead) (take n pending)
   pub wide : n ≤ length pending
 
-pub taking-begins : (n : ℕ) (processes : List Process) (ahead : List Row) (time : ℕ) (released : List ℕ) (table : Jobs) (p : ℕ) → n ≤ length released
-    → TakesReleased n processes ahead time released table → p ≡ nextFree (rowRelation n ahead) (take n released)
-    → Taking n processes ahead time (table .jobs) (table .count) released p
-taking-begins n processes ahead time released table p w t e = record {
+pub taking-begins : (n : ℕ) (processes : List Process) (ahead : List Row) (time : ℕ) (released : List ℕ) (jobs : List Job) (count p : ℕ) → n ≤ length released
+    → HoldsJobs (sequenceTo (take n processes) (rowRelation n ahead) time) (record { count = count; jobs = jobs })
+    → take n released ≡ releasedNow (take n processes) time → p ≡ nextFree (rowRelation n ahead) (take n released)
+    → Taking n processes ahead time jobs count released p
+taking-begins n processes ahead time released jobs count p w t r e = record {
   held = sequenceTo (take n processes) (rowRelation n ahead) time;
-  size = t .before .count;
-  stands = t .before .jobs;
-  rest = rw (t .now-pending) (sequence-next (take n processes) (rowRelation n ahead) time);
+  size = t .count;
+  stands = t .jobs;
+  rest = rw r (sequence-next (take n processes) (rowRelation n ahead) time);
   next = e;
   wide = w;
 }
@@ -134,25 +138,36 @@ module _ (processes : List Process) (ahead : Relation) where
       → HoldsJobs (sequenceTo processes ahead frame) table
   times-end time frame table h l b = subst (λ x. HoldsJobs (sequenceTo processes ahead x) table) (omega arith) b
 
+  -- where nothing is released between two times, the jobs before the second are those before the first
+  quiet-same : (time more : ℕ)
+      → ((t : ℕ) → time ≤ t → t < time + more → (p : ℕ) → p < length processes → releasedAt (processAt processes p) t ≡ false)
+      → sequenceTo processes ahead (time + more) ≡ sequenceTo processes ahead time
+  unfolding sequenceTo jobsReleased takeJobs
+  quiet-same time zero q = let z : time + 0 ≡ time = omega arith in rw z
+  quiet-same time (suc more) q =
+      let z : time + suc more ≡ suc (time + more) = omega arith in
+      let none : pendingCount (releasedNow processes (time + more)) ≡ 0 =
+      released-count (time + more) processes
+      ∙ sum-none (length processes) _ (λ p h. rw (q (time + more) (omega arith) (omega arith) p h)) in
+      rw (z, none, append-nil) (quiet-same time more (λ t a b. q t a (omega arith)))
+
 module _ (n : ℕ) (processes : List Process) (ahead : List Row) where
   pub good-of : (frame : ℕ) → FitsTable n processes ahead frame → GoodProcesses n processes
   good-of frame t = record { few = t .few; good = t .good }
 
-  pub takes-of : (frame time : ℕ) (released : Released) (table : Jobs) → FitsTable n processes ahead frame → time < frame → TellsReleased n processes time released
-      → HoldsJobs (sequenceTo (take n processes) (rowRelation n ahead) time) table → TakesReleased n processes ahead time (released .counts) table
-  takes-of frame time released table t h r b = record {
-    good = good-of frame t;
-    early = omega (arith, t .short);
-    now-pending = r .counts;
-    before = b;
-    room = t .room (time + 1) (omega arith);
-  }
+  pub room-of : (frame time : ℕ) → FitsTable n processes ahead frame → time < frame
+      → length (sequenceTo (take n processes) (rowRelation n ahead) (time + 1)) ≤ 128
+  room-of frame time t h = t .room (time + 1) (omega arith)
 
-  -- a time at which nothing is released
-  pub times-skip : (time : ℕ) (released : Released) (table : Jobs) → TellsReleased n processes time released → released .total ≤ 0
-      → HoldsJobs (sequenceTo (take n processes) (rowRelation n ahead) time) table
+  -- the next release after a time
+  pub times-go-on : (time frame : ℕ) (released : Released) (table : Jobs) → n ≤ length processes → TellsReleased n processes time frame released
       → HoldsJobs (sequenceTo (take n processes) (rowRelation n ahead) (time + 1)) table
-  unfolding takeJobs stillToTake
-  times-skip time released table r h b =
-      let none : pendingCount (releasedNow (take n processes) time) ≡ 0 = omega (arith, r .total) in
-      rw (sequence-next (take n processes) (rowRelation n ahead) time, none, append-nil) b
+      → HoldsJobs (sequenceTo (take n processes) (rowRelation n ahead) (released .next)) table
+  times-go-on time frame released table w r b =
+      let size : length (take n processes) ≡ n = length-take-le n processes w in
+      let z : (time + 1) + (released .next - (time + 1)) ≡ released .next = omega (arith, r .after) in
+      let same : sequenceTo (take n processes) (rowRelation n ahead) (released .next) ≡ sequenceTo (take n processes) (rowRelation n ahead) (time + 1) =
+      ap (λ (t : ℕ). sequenceTo (take n processes) (rowRelation n ahead) t) (sym z)
+      ∙ quiet-same (take n processes) (rowRelation n ahead) (time + 1) (released .next - (time + 1)) (λ t a l p h.
+      ap (λ (x : Process). releasedAt x t) (getD-take n processes p noProcess (omega arith)) ∙ r .quiet t (omega arith) (omega arith) p (omega arith)) in
+      rw same b

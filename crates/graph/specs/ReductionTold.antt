@@ -1,12 +1,12 @@
 -- What the functions of the reduction say of rows of marks.
-use Prim.Native.Nat.{ℕ, _<_}
+use Prim.Native.Nat.{ℕ, _≤_, _<_}
 use mathlib.Core.Path.{_≡_}
-use mathlib.Core.Bool.{true, cond, _&&_}
+use mathlib.Core.Bool.{true, false, _&&_}
 use mathlib.Core.List.{List}
 use lib.ListN.{getD}
 use lib.Dec.{ltb}
 use Rattle.reply.specs.Tools.{any, sum}
-use Rattle.marks.specs.Row.{marked, noMarks, rowOf, withOf, orOf, countOf}
+use Rattle.marks.specs.Row.{marked, noMarks, rowOf, withOf, withoutOf, countOf}
 use Rattle.marks.specs.declared.Row.{Row}
 use Rattle.network.specs.Lists.{table, fillTo}
 use Rattle.network.specs.Chains.{Relation, relation}
@@ -27,21 +27,22 @@ pub record ReducedTo (n : ℕ) (before : List Row) (rows : List Row) (edges : �
 
 -- ---- the steps
 
+-- a mark of the row, or 128 or more if it has none
+pub record FindsMark (row : Row) (r : ℕ) : Type 0 where
+  pub has : r < 128 → marked row r ≡ true
+  pub none : 128 ≤ r → (k : ℕ) → marked row k ≡ false
+
+-- the row without mark i
+unfoldable pub exceptOf : Row → ℕ → Row
+exceptOf row i = withoutOf row (withOf noMarks i)
+
 -- what row k marks, for each k below n that `row` marks
 unfoldable pub gathered : ℕ → List Row → Row → Row
 gathered n rows row = rowOf (λ i. any n (λ k. marked row k && marked (getD rows k noMarks) i))
 
--- the marks of `far` and, where `row` marks k, those of row k, which is `via`
-unfoldable pub alsoVia : Row → ℕ → Row → Row → Row
-alsoVia row k via far = cond (marked row k) (orOf far via) far
-
 -- which rows below n mark i
 unfoldable pub markers : ℕ → List Row → ℕ → Row
 markers n rows i = rowOf (λ j. ltb j n && marked (getD rows j noMarks) i)
-
--- the marks of `out`, and j where row j, which is `row`, marks i
-unfoldable pub alsoMarker : Row → ℕ → ℕ → Row → Row
-alsoMarker row i j out = cond (marked row i) (withOf out j) out
 
 -- the rows below n turned the other way: row i marks each j whose row marks i
 unfoldable pub turned : ℕ → List Row → List Row

@@ -1,7 +1,7 @@
 -- What the functions that build the table of jobs ask for, and what they give.
 use Prim.Native.Nat.{ℕ, _+_, _≤_, _<_}
 use mathlib.Core.Path.{_≡_}
-use mathlib.Core.Bool.{Bool, cond, _&&_}
+use mathlib.Core.Bool.{Bool, false, cond, _&&_}
 use mathlib.Core.List.{List}
 use lib.ListN.{length, getD, take}
 use Rattle.marks.specs.Row.{marked, noMarks}
@@ -11,7 +11,7 @@ use Rattle.network.specs.Frame.{processAt}
 use Rattle.network.specs.Valid.{GoodProcess}
 use Rattle.network.specs.declared.Process.{Process}
 use Rattle.graph.specs.Order.{rowRelation}
-use Rattle.graph.specs.Sequence.{noJob, releasedAt, releasedNow, isPending, pendingCount, sequenceTo}
+use Rattle.graph.specs.Sequence.{noJob, releasedAt, releasedNow, isPending, sequenceTo}
 use Rattle.graph.specs.declared.Job.{Job}
 use Rattle.graph.specs.declared.sequence.Jobs.{Jobs}
 use Rattle.graph.specs.declared.sequence.Released.{Released}
@@ -33,23 +33,24 @@ pub record GoodProcesses (n : ℕ) (processes : List Process) : Type 0 where
   pub few : n ≤ 12
   pub good : (p : ℕ) → p < n → GoodProcess (processAt processes p)
 
--- what the first n processes release at a time
-pub record TellsReleased (n : ℕ) (processes : List Process) (time : ℕ) (r : Released) : Type 0 where
-  pub total : r .total ≡ pendingCount (releasedNow (take n processes) time)
+-- the sooner of `next` and the process's first release after a time
+pub record Sooner (process : Process) (time next r : ℕ) : Type 0 where
+  pub least : r ≤ next
+  pub after : time < next → time < r
+  pub quiet : (t : ℕ) → time < t → t < r → releasedAt process t ≡ false
+
+-- what the first n processes release at a time of a frame, and until when they release no more
+pub record TellsReleased (n : ℕ) (processes : List Process) (time frame : ℕ) (r : Released) : Type 0 where
+  pub wide : n ≤ length (r .counts)
   pub counts : take n (r .counts) ≡ releasedNow (take n processes) time
+  pub after : time < r .next
+  pub within : r .next ≤ frame
+  pub quiet : (t : ℕ) → time < t → t < r .next → (p : ℕ) → p < n → releasedAt (processAt processes p) t ≡ false
 
 -- a table holds these jobs
 pub record HoldsJobs (held : List Job) (r : Jobs) : Type 0 where
   pub count : r .count ≡ length held
   pub jobs : r .jobs ≡ fillTo 128 noJob held
-
--- a table holds the jobs released before a time, and has room for those of that time
-pub record TakesReleased (n : ℕ) (processes : List Process) (ahead : List Row) (time : ℕ) (released : List ℕ) (table : Jobs) : Type 0 where
-  pub good : GoodProcesses n processes
-  pub early : time ≤ 2000
-  pub now-pending : take n released ≡ releasedNow (take n processes) time
-  pub before : HoldsJobs (sequenceTo (take n processes) (rowRelation n ahead) time) table
-  pub room : length (sequenceTo (take n processes) (rowRelation n ahead) (time + 1)) ≤ 128
 
 -- a frame of the first n processes, whose jobs never are too many for the table
 pub record FitsTable (n : ℕ) (processes : List Process) (ahead : List Row) (frame : ℕ) : Type 0 where

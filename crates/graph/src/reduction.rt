@@ -1,12 +1,12 @@
 // The transitive reduction of a relation that only goes forward, on whole rows of marks: an edge stays exactly when no other path joins its ends.
 use marks::Row;
 ghost use mathlib.Core.Path.{_≡_};
-ghost use Prim.Native.Nat.{_≤_, _<_};
+ghost use Prim.Native.Nat.{_≤_};
 ghost use lib.ListN.{replicate};
 ghost use Rattle.marks.specs.Row.{noMarks};
 ghost use Rattle.network.specs.Lists.{fillTo};
 ghost use Rattle.graph.specs.Graph.{reductionOf, rowsTo};
-ghost use Rattle.graph.specs.ReductionTold.{heldTo, Earlier, ReducedTo, gathered, alsoVia, markers, alsoMarker, turned, marksOf};
+ghost use Rattle.graph.specs.ReductionTold.{heldTo, Earlier, ReducedTo, FindsMark, exceptOf, turned, marksOf};
 
 // Row i marks each job that an edge leads to from job i.
 pub struct Reduced {
@@ -21,33 +21,30 @@ pub fn no_rows() -> [Row; 128]
     [none; 128]
 }
 
-// The marks of `far` and, where the row marks k, those of row k, which is `via`.
-fn also_via(row: Row, k: usize, via: Row, far: Row) -> Row
-    ensures { λ r. ⌜ r ≡ alsoVia row k via far ⌝ }
+// A mark of the row, the highest; 128 if it has none.
+fn highest(row: Row) -> usize
+    ensures { λ r. ⌜ FindsMark row r ⌝ }
 {
-    if row.has(k) {
-        return far.or(via);
+    if row.high > 0 {
+        return 127 - u64::leading_zeros(row.high) as usize;
     }
-    far
+    if row.low > 0 {
+        return 63 - u64::leading_zeros(row.low) as usize;
+    }
+    128
 }
 
-// What row k marks, for each k below n that the row marks.
-fn gather(rows: [Row; 128], row: Row, n: usize) -> Row
-    requires { ⌜ n ≤ 128 ⌝ }
-    ensures { λ r. ⌜ r ≡ gathered n rows row ⌝ }
+// The row without mark i.
+fn except(row: Row, i: usize) -> Row
+    ensures { λ r. ⌜ r ≡ exceptOf row i ⌝ }
 {
-    let mut far = Row::empty();
-    let mut k = 0usize;
-    while k < n {
-        let via = rows[k];
-        let next = also_via(row, k, via, far);
-        far = next;
-        k += 1;
-    }
-    far
+    let none = Row::empty();
+    let one = none.with(i);
+    row.without(one)
 }
 
-// Row j marks each job whose edge to job j stays: a predecessor of j that is no ancestor of another.
+// Row j marks each job whose edge to job j stays: a predecessor of j that is no ancestor of another. The highest predecessor that is left goes next;
+// its ancestors need no look of their own.
 fn edges_to(before: [Row; 128], count: usize) -> [Row; 128]
     requires { ⌜ (count ≤ 128) × Earlier count before ⌝ }
     ensures { λ r. ⌜ r ≡ fillTo 128 noMarks (rowsTo count (reductionOf count (heldTo count before))) ⌝ }
@@ -57,7 +54,16 @@ fn edges_to(before: [Row; 128], count: usize) -> [Row; 128]
     let mut j = 0usize;
     while j < count {
         let row = before[j];
-        let far = gather(ancestors, row, j);
+        let mut far = Row::empty();
+        let mut left = row;
+        let mut i = highest(left);
+        while i < 128 {
+            let via = ancestors[i];
+            far = far.or(via);
+            let others = left.without(via);
+            left = except(others, i);
+            i = highest(left);
+        }
         let reached = row.or(far);
         let kept = row.without(far);
         ancestors[j] = reached;
@@ -67,43 +73,24 @@ fn edges_to(before: [Row; 128], count: usize) -> [Row; 128]
     edges
 }
 
-// The marks of `out`, and j where row j, which is `row`, marks i.
-fn also_marker(row: Row, i: usize, j: usize, out: Row) -> Row
-    ensures { λ r. ⌜ r ≡ alsoMarker row i j out ⌝ }
-{
-    if row.has(i) {
-        return out.with(j);
-    }
-    out
-}
-
-// Which rows below n mark i. Those up to i do not.
-fn column(rows: [Row; 128], i: usize, n: usize) -> Row
-    requires { ⌜ (n ≤ 128) × (i < n) × Earlier n rows ⌝ }
-    ensures { λ r. ⌜ r ≡ markers n rows i ⌝ }
-{
-    let mut out = Row::empty();
-    let mut j = i + 1;
-    while j < n {
-        let row = rows[j];
-        let next = also_marker(row, i, j, out);
-        out = next;
-        j += 1;
-    }
-    out
-}
-
 // The rows turned the other way: row i marks each j whose row marks i.
 fn turn(rows: [Row; 128], n: usize) -> [Row; 128]
     requires { ⌜ (n ≤ 128) × Earlier n rows ⌝ }
     ensures { λ r. ⌜ r ≡ turned n rows ⌝ }
 {
     let mut out = no_rows();
-    let mut i = 0usize;
-    while i < n {
-        let row = column(rows, i, n);
-        out[i] = row;
-        i += 1;
+    let mut j = 0usize;
+    while j < n {
+        let mut left = rows[j];
+        let mut i = highest(left);
+        while i < 128 {
+            let row = out[i];
+            let more = row.with(j);
+            out[i] = more;
+            left = except(left, i);
+            i = highest(left);
+        }
+        j += 1;
     }
     out
 }

@@ -4,7 +4,7 @@ use marks::Row;
 use network::Process;
 ghost use mathlib.Core.Path.{_≡_};
 ghost use mathlib.Core.Bool.{_&&_};
-ghost use Prim.Native.Nat.{_+_, _≤_, _<_};
+ghost use Prim.Native.Nat.{_≤_, _<_};
 ghost use lib.Dec.{ltb};
 ghost use lib.ListN.{replicate, take};
 ghost use Rattle.reply.specs.Tools.{any};
@@ -12,7 +12,7 @@ ghost use Rattle.marks.specs.Row.{marked};
 ghost use Rattle.network.specs.Valid.{GoodProcess};
 ghost use Rattle.graph.specs.Order.{rowRelation};
 ghost use Rattle.graph.specs.Sequence.{noJob, isFree, nextFree, sequenceTo};
-ghost use Rattle.graph.specs.SequenceTold.{jobFrom, releasedFrom, waitsFor, GoodProcesses, TellsReleased, HoldsJobs, TakesReleased, FitsTable};
+ghost use Rattle.graph.specs.SequenceTold.{jobFrom, releasedFrom, waitsFor, GoodProcesses, Sooner, TellsReleased, HoldsJobs, FitsTable};
 
 // The first `count` jobs are those of the sequence so far; the rest are zero.
 pub struct Jobs {
@@ -20,9 +20,9 @@ pub struct Jobs {
     pub jobs: [Job; 128],
 }
 
-// What is released at a time: how many jobs in all, and how many of each process.
+// What is released at a time: how many jobs of each process; and the time of the next release, or the frame's end.
 pub struct Released {
-    pub total: u32,
+    pub next: u32,
     pub counts: [u32; 12],
 }
 
@@ -55,22 +55,36 @@ fn released_by(process: Process, time: u32) -> u32
     0
 }
 
-// What the first n processes release at a time.
-fn released_at(processes: [Process; 12], n: usize, time: u32) -> Released
-    requires { ⌜ GoodProcesses n processes ⌝ }
-    ensures { λ r. ⌜ TellsReleased n processes time r ⌝ }
+// The process's first release after a time, or `next` if that is sooner.
+fn sooner(process: Process, time: u32, next: u32) -> u32
+    requires { ⌜ GoodProcess process × (time ≤ 2000) ⌝ }
+    ensures { λ r. ⌜ Sooner process time next r ⌝ }
+{
+    let period = process.period;
+    let since = time % period;
+    let due = time - since + period;
+    if due < next {
+        return due;
+    }
+    next
+}
+
+// What the first n processes release at a time of a frame, and when they release again.
+fn released_at(processes: [Process; 12], n: usize, time: u32, frame: u32) -> Released
+    requires { ⌜ GoodProcesses n processes × (time < frame) × (frame ≤ 2000) ⌝ }
+    ensures { λ r. ⌜ TellsReleased n processes time frame r ⌝ }
 {
     let mut counts = no_counts();
-    let mut total = 0u32;
+    let mut next = frame;
     let mut i = 0usize;
     while i < n {
         let process = processes[i];
         let count = released_by(process, time);
         counts[i] = count;
-        total += count;
+        next = sooner(process, time, next);
         i += 1;
     }
-    Released { total, counts }
+    Released { next, counts }
 }
 
 // Whether a process of so many pending jobs is ahead of process p, by its row of those that it is ahead of.
@@ -141,49 +155,28 @@ fn job_from(process: Process, p: usize, time: u32) -> Job
     }
 }
 
-// The table with the jobs of one time after those released before, `released` of each process.
-fn take_released(
-    processes: [Process; 12],
-    n: usize,
-    ahead: [Row; 12],
-    time: u32,
-    released: [u32; 12],
-    table: Jobs,
-) -> Jobs
-    requires { ⌜ TakesReleased n processes ahead time released table ⌝ }
-    ensures { λ r. ⌜ HoldsJobs (sequenceTo (take n processes) (rowRelation n ahead) (time + 1)) r ⌝ }
-{
-    let mut jobs = table.jobs;
-    let mut count = table.count;
-    let mut pending = released;
-    let mut p = next_free(pending, n, ahead);
-    while p < n {
-        let process = processes[p];
-        let job = job_from(process, p, time);
-        jobs[count] = job;
-        count += 1;
-        let left = pending[p] - 1;
-        pending[p] = left;
-        p = next_free(pending, n, ahead);
-    }
-    Jobs { count, jobs }
-}
-
 // The jobs of a frame of the first n processes in sequence. Row a of `ahead` marks each process that a comes before.
 pub fn sequence(processes: [Process; 12], n: usize, ahead: [Row; 12], frame: u32) -> Jobs
     requires { ⌜ FitsTable n processes ahead frame ⌝ }
     ensures { λ r. ⌜ HoldsJobs (sequenceTo (take n processes) (rowRelation n ahead) frame) r ⌝ }
 {
-    let jobs = no_jobs();
-    let mut table = Jobs { count: 0, jobs };
+    let mut jobs = no_jobs();
+    let mut count = 0usize;
     let mut time = 0u32;
     while time < frame {
-        let released = released_at(processes, n, time);
-        if released.total > 0 {
-            let counts = released.counts;
-            table = take_released(processes, n, ahead, time, counts, table);
+        let released = released_at(processes, n, time, frame);
+        let mut pending = released.counts;
+        let mut p = next_free(pending, n, ahead);
+        while p < n {
+            let process = processes[p];
+            let job = job_from(process, p, time);
+            jobs[count] = job;
+            count += 1;
+            let left = pending[p] - 1;
+            pending[p] = left;
+            p = next_free(pending, n, ahead);
         }
-        time += 1;
+        time = released.next;
     }
-    table
+    Jobs { count, jobs }
 }

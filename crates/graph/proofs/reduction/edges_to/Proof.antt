@@ -1,9 +1,18 @@
--- `reduction::edges_to` meets its contract. The loop's invariant is `ReducedSoFar`; the measure, the jobs still to come.
+-- `reduction::edges_to` meets its contract. The outer loop's invariant is `ReducedSoFar`; its measure, the jobs still to come.
+-- The inner loop's is `Gathers`; its measure, the predecessors that are left.
 use borrow.Author.Needs.{needs}
 use Prim.Native.Nat.{_≤_, _-_}
-use Rattle.graph.proofs.Ancestors.{ReducedSoFar, reduction-begins, reduction-goes-on, reduction-ends}
+use Rattle.marks.specs.Row.{countOf}
+use Rattle.graph.proofs.Ancestors.{ReducedSoFar, reduction-begins, reduction-goes-on, reduction-ends, ancestors-join, predecessor-below}
+use Rattle.graph.proofs.Gathering.{Gathers, gathers-begin, gathers-less, gathers-go-on, gathers-end}
 use Rattle.graph.proofs.reduction.edges_to.Statement.{statement}
 use Rattle.graph.proofs.reduction.edges_to.Tie as tie
+
+abbrev Inv-loop2 : tie.InvT-loop2
+Inv-loop2 count before ancestors edges j row far₀ left₀ i₀ far left i = Gathers j ancestors row far left i
+
+abbrev μ-loop2 : tie.MeasureT-loop2
+μ-loop2 count before ancestors edges j row far₀ left₀ i₀ far left i = countOf left
 
 abbrev Inv-loop : tie.InvT-loop
 Inv-loop count before ancestors₀ edges₀ j₀ ancestors edges j = (j ≤ count) × ReducedSoFar count before j ancestors edges
@@ -11,27 +20,47 @@ Inv-loop count before ancestors₀ edges₀ j₀ ancestors edges j = (j ≤ coun
 abbrev μ-loop : tie.MeasureT-loop
 μ-loop count before ancestors₀ edges₀ j₀ ancestors edges j = count - j
 
-loop-holds : tie.Need-loop-holds Inv-loop μ-loop
+loop-holds : tie.Need-loop-holds Inv-loop2 μ-loop2 Inv-loop μ-loop
 loop-holds c = (search needs, reduction-begins _ _ _ _ (c .before .no-rows .ensures) (c .no-rows2 .ensures))
 
-loop-again : tie.Need-loop-again Inv-loop μ-loop
+loop2-less : tie.Need-loop2-less Inv-loop2 μ-loop2 Inv-loop μ-loop
+loop2-less c =
+    let without = c .before .before in
+    let turn = without .before .before .before in
+    gathers-less (turn .before .loop2 .inv) (turn .loop2-test .taken) _ _ (without .without .ensures) (c .before .except .ensures)
+
+loop2-again : tie.Need-loop2-again Inv-loop2 μ-loop2 Inv-loop μ-loop
+loop2-again c =
+    let without = c .before .before in
+    let turn = without .before .before .before in
+    let in-loop = turn .before .before .before .before .before in
+    let at = in-loop .before in
+    let pre = at .before .before .before .pre in
+    gathers-go-on (turn .before .loop2 .inv) (turn .loop2-test .taken) _ _ (without .without .ensures) (c .before .except .ensures) _ _
+    (predecessor-below _ _ (pre .0) (pre .1) _ _ _ (in-loop .loop-test .taken) (at .loop .inv .1))
+    (ancestors-join _ _ (pre .0) (pre .1) _ _ _ (in-loop .loop-test .taken) (at .loop .inv .1) _)
+    (without .before .or .ensures) (c .highest2 .ensures)
+
+loop-again : tie.Need-loop-again Inv-loop2 μ-loop2 Inv-loop μ-loop
 loop-again c =
     let far = c .before .before in
-    let in-loop = far .before .before in
+    let in-loop = far .before .before .before .before .before in
     let at = in-loop .before in
     let pre = at .before .before .before .pre in (
       search needs,
-      reduction-goes-on _ _ (pre .0) (pre .1) _ _ _ (in-loop .loop-test .taken) (at .loop .inv .1) _ (far .gather .ensures) _ _
-          (c .before .or .ensures) (c .without .ensures),
+      reduction-goes-on _ _ (pre .0) (pre .1) _ _ _ (in-loop .loop-test .taken) (at .loop .inv .1) _ (gathers-end (far .before .loop2 .inv) (far .loop2-test .left)) _ _
+          (c .before .or2 .ensures) (c .without2 .ensures),
     )
 
-returns : tie.Need-returns Inv-loop μ-loop
+returns : tie.Need-returns Inv-loop2 μ-loop2 Inv-loop μ-loop
 returns c = reduction-ends _ _ _ _ _ (c .before .loop .inv .0) (c .loop-test .left) (c .before .loop .inv .1)
 
 pub edges-to-spec : {M : Type 1} → statement M
 edges-to-spec =
     tie.close
     (tie.spec
+    Inv-loop2
+    μ-loop2
     Inv-loop
     μ-loop
     (λ c κs. search needs)
@@ -40,6 +69,16 @@ edges-to-spec =
     (λ c. search needs)
     (λ c. search needs)
     (λ c κs. search needs)
+    (λ c κs. search needs)
+    (λ c. gathers-begin _ _ _ _ _ (c .before .empty .ensures) (c .highest .ensures))
+    (λ c. search needs)
+    (λ c. search needs)
+    (λ c κs. search needs)
+    (λ c κs. search needs)
+    (λ c κs. search needs)
+    (λ c κs. search needs)
+    loop2-less
+    loop2-again
     (λ c κs. search needs)
     (λ c κs. search needs)
     (λ c. search needs)

@@ -6,24 +6,26 @@ use Rattle.graph.proofs.sequence.released_at.Statement.{statement}
 use Rattle.graph.proofs.sequence.released_at.Tie as tie
 
 abbrev Inv-loop : tie.InvT-loop
-Inv-loop n time processes counts₀ total₀ i₀ counts total i = (i ≤ n) × ReleasedSoFar processes time i total counts
+Inv-loop n time frame processes counts₀ next₀ i₀ counts next i = (i ≤ n) × ReleasedSoFar processes time frame i next counts
 
 abbrev μ-loop : tie.MeasureT-loop
-μ-loop n time processes counts₀ total₀ i₀ counts total i = n - i
+μ-loop n time frame processes counts₀ next₀ i₀ counts next i = n - i
 
 released-by-requires : tie.Need-released-by-requires Inv-loop μ-loop
-released-by-requires c κs = let in-loop = c .before in in-loop .before .before .before .pre .good _ (in-loop .loop-test .taken)
+released-by-requires c κs = let in-loop = c .before in in-loop .before .before .before .pre .0 .good _ (in-loop .loop-test .taken)
+
+sooner-requires : tie.Need-sooner-requires Inv-loop μ-loop
+sooner-requires c κs = let in-loop = c .before .before in (in-loop .before .before .before .pre .0 .good _ (in-loop .loop-test .taken), search needs)
 
 loop-again : tie.Need-loop-again Inv-loop μ-loop
 loop-again c =
-    let at = c .before .before .before in
-    let told = c .released-by .ensures in
-    (search needs, released-goes-on _ _ _ _ _ _ (search needs) (at .loop .inv .1) (told .0) (told .1))
+    let at = c .before .before .before .before in
+    (search needs, released-goes-on _ _ _ _ _ _ _ _ (search needs) (at .loop .inv .1) (c .before .released-by .ensures .0) (c .sooner .ensures))
 
 returns : tie.Need-returns Inv-loop μ-loop
 returns c =
     let at = c .before in
-    released-ends _ _ _ (search needs) _ _ _ (at .before .before .pre .few) (at .loop .inv .0) (c .loop-test .left) (at .loop .inv .1)
+    released-ends _ _ _ _ (search needs) _ _ _ (at .before .before .pre .0 .few) (at .loop .inv .0) (c .loop-test .left) (at .loop .inv .1)
 
 pub released-at-spec : {M : Type 1} → statement M
 released-at-spec =
@@ -32,13 +34,13 @@ released-at-spec =
     Inv-loop
     μ-loop
     (λ c κs. search needs)
-    (λ c. (search needs, released-begins _ _ _ (search needs)))
+    (λ c. (search needs, released-begins _ _ _ _ (search needs) (search needs)))
     (λ c. search needs)
     (λ c. search needs)
     released-by-requires
     (λ c. search needs)
     (λ c. search needs)
-    (λ c. search needs)
+    sooner-requires
     (λ c. search needs)
     (λ c. search needs)
     loop-again

@@ -1,0 +1,96 @@
+-- The marks of a row one after another: the highest of a word, a row without one mark, and that it then has fewer.
+use Prim.Native.Nat.{ℕ, zero, suc, _+_, _-_, _*_, _/_, _%_, _^_, _≤_, _<_}
+use mathlib.Core.Path.{_≡_, refl, ap, subst, _∙_}
+use mathlib.Core.Bool.{Bool, true, false, cond, not, _&&_, _||_}
+use native.Mathlib.Decide.{ℕ-discrete}
+use native.Mathlib.Nat.{div-eq-of-lt-le, one-mul}
+use native.Mathlib.Omega.{arith}
+use lib.Count.{leadingZeros, leading-top}
+use lib.Dec.{eqb}
+use borrow.Author.Tests.{eq-eqb, eqb-true}
+use Rattle.reply.specs.Tools.{count}
+use Rattle.reply.specs.Tests.{split, both}
+use Rattle.reply.specs.Counts.{count-zero, count-suc}
+use Rattle.marks.specs.Row.{bit, marked, noMarks, withOf, withoutOf, countOf}
+use Rattle.marks.specs.Words.{bit-none}
+use Rattle.marks.specs.Laws.{marked-low, marked-high, marked-past, marked-none, marked-with, marked-without, by-place, count-is}
+use Rattle.marks.specs.declared.Row.{Row}
+use Rattle.graph.specs.ReductionTold.{FindsMark, exceptOf}
+
+-- ---- the highest mark
+
+module _ (a : ℕ) (some : 0 < a) (fits : a < 2 ^ 64) where
+  pub zeros-few : leadingZeros 64 a < 64
+  zeros-few = let (j, e, l, h) = leading-top 64 a some fits in omega arith
+
+  bit-top : bit a (63 - leadingZeros 64 a) ≡ true
+  bit-top =
+      let (j, e, l, h) = leading-top 64 a some fits in
+      let z : 63 - leadingZeros 64 a ≡ j = omega arith in
+      let one : a / 2 ^ j ≡ 1 = div-eq-of-lt-le (2 ^ j) (omega (arith, one-mul (2 ^ j))) (omega arith) in
+      rw (z, one)
+
+module _ (row : Row) where
+  pub finds-high : 0 < row .high → row .high < 2 ^ 64 → FindsMark row (127 - leadingZeros 64 (row .high))
+  finds-high some fits =
+      let few : leadingZeros 64 (row .high) < 64 = zeros-few (row .high) some fits in
+      let z : 127 - leadingZeros 64 (row .high) - 64 ≡ 63 - leadingZeros 64 (row .high) = omega arith in
+      record {
+        has = λ h. marked-high row (127 - leadingZeros 64 (row .high)) (omega arith) h ∙ ap (bit (row .high)) z ∙ bit-top (row .high) some fits;
+        none = λ h. absurd (omega arith);
+      }
+
+  pub finds-low : 0 < row .low → row .low < 2 ^ 64 → FindsMark row (63 - leadingZeros 64 (row .low))
+  finds-low some fits = record {
+    has = λ h. marked-low row (63 - leadingZeros 64 (row .low)) (omega arith) ∙ bit-top (row .low) some fits;
+    none = λ h. absurd (omega arith);
+  }
+
+  pub finds-none : row .high ≤ 0 → row .low ≤ 0 → FindsMark row 128
+  finds-none h l =
+      let high : row .high ≡ 0 = omega arith in
+      let low : row .low ≡ 0 = omega arith in
+      record {
+        has = λ m. absurd (omega arith);
+        none = λ m k. by-place k
+            (λ b. marked-low row k b ∙ ap (λ (w : ℕ). bit w k) low ∙ bit-none k)
+            (λ b c. marked-high row k b c ∙ ap (λ (w : ℕ). bit w (k - 64)) high ∙ bit-none (k - 64))
+            (marked-past row k);
+      }
+
+-- ---- without one
+
+  pub marked-except : (i : ℕ) → i < 128 → (k : ℕ) → marked (exceptOf row i) k ≡ (marked row k && not (eqb k i))
+  unfolding exceptOf
+  marked-except i h k =
+      let one : marked (withOf noMarks i) k ≡ eqb k i = marked-with noMarks i h k ∙ rw (marked-none k) in
+      marked-without row (withOf noMarks i) k ∙ ap (λ (b : Bool). marked row k && not b) one
+
+pub except-is : (row none one r : Row) (i : ℕ) → none ≡ noMarks → one ≡ withOf none i → r ≡ withoutOf row one → r ≡ exceptOf row i
+unfolding exceptOf
+except-is row none one r i n o e = e ∙ ap (withoutOf row) (o ∙ ap (λ (x : Row). withOf x i) n)
+
+-- ---- fewer
+
+cond-le : (a b : Bool) → (a ≡ true → b ≡ true) → cond a 1 0 ≤ cond b 1 0
+cond-le true b f = rw (f refl) (omega arith)
+cond-le false b f = omega arith
+
+count-le : (n : ℕ) (r q : ℕ → Bool) → ((k : ℕ) → r k ≡ true → q k ≡ true) → count n r ≤ count n q
+count-le zero r q f = omega (arith, count-zero r, count-zero q)
+count-le (suc n) r q f = omega (arith, count-suc n r, count-suc n q, count-le n r q f, cond-le (r n) (q n) (f n))
+
+count-less : (n : ℕ) (r q : ℕ → Bool) (i : ℕ) → i < n → r i ≡ false → q i ≡ true → ((k : ℕ) → r k ≡ true → q k ≡ true) → count n r < count n q
+count-less zero r q i h a b f = absurd (omega arith)
+count-less (suc n) r q i h a b f = elim (ℕ-discrete i n) [
+  | yes e ↦
+      let a′ : r n ≡ false = subst (λ x. r x ≡ false) e a in
+      let b′ : q n ≡ true = subst (λ x. q x ≡ true) e b in
+      omega (arith, rw a′ at (count-suc n r), rw b′ at (count-suc n q), count-le n r q f)
+  | no d ↦ omega (arith, count-suc n r, count-suc n q, count-less n r q i (omega arith) a b f, cond-le (r n) (q n) (f n))
+]
+
+-- a row with no mark that another has not, and without one that it has
+pub fewer-marks : (less row : Row) (i : ℕ) → i < 128 → marked less i ≡ false → marked row i ≡ true → ((k : ℕ) → marked less k ≡ true → marked row k ≡ true)
+    → countOf less < countOf row
+fewer-marks less row i h a b f = omega (arith, count-is less, count-is row, count-less 128 (marked less) (marked row) i h a b f)
