@@ -33,7 +33,7 @@ pub struct Case {
 pub fn case(seed: u64, number: u64) -> Case {
     let mut random = Random::of_case(seed, number);
     let chosen = random.below(100);
-    let (mut kind, mut network) = if chosen < 38 {
+    let (mut kind, mut network) = if chosen < 30 {
         sound(&mut random)
     } else if chosen < 80 {
         unsound(&mut random)

@@ -1,15 +1,13 @@
 -- The marks of a row one after another: the highest of a word, a row without one mark, and that it then has fewer.
-use Prim.Native.Nat.{ℕ, zero, suc, _+_, _-_, _*_, _/_, _%_, _^_, _≤_, _<_}
+use Prim.Native.Nat.{ℕ, zero, suc, _-_, _/_, _^_, _≤_, _<_}
 use mathlib.Core.Path.{_≡_, refl, ap, subst, _∙_}
-use mathlib.Core.Bool.{Bool, true, false, cond, not, _&&_, _||_}
+use mathlib.Core.Bool.{Bool, true, false, cond, not, _&&_}
 use native.Mathlib.Decide.{ℕ-discrete}
 use native.Mathlib.Nat.{div-eq-of-lt-le, one-mul}
 use native.Mathlib.Omega.{arith}
 use lib.Count.{leadingZeros, leading-top}
 use lib.Dec.{eqb}
-use borrow.Author.Tests.{eq-eqb, eqb-true}
 use Rattle.reply.specs.Tools.{count}
-use Rattle.reply.specs.Tests.{split, both}
 use Rattle.reply.specs.Counts.{count-zero, count-suc}
 use Rattle.marks.specs.Row.{bit, marked, noMarks, withOf, withoutOf, countOf}
 use Rattle.marks.specs.Words.{bit-none}
@@ -60,11 +58,11 @@ module _ (row : Row) where
 
 -- ---- without one
 
-  pub marked-except : (i : ℕ) → i < 128 → (k : ℕ) → marked (exceptOf row i) k ≡ (marked row k && not (eqb k i))
-  unfolding exceptOf
-  marked-except i h k =
-      let one : marked (withOf noMarks i) k ≡ eqb k i = marked-with noMarks i h k ∙ rw (marked-none k) in
-      marked-without row (withOf noMarks i) k ∙ ap (λ (b : Bool). marked row k && not b) one
+pub marked-except : (row : Row) (i : ℕ) → i < 128 → (k : ℕ) → marked (exceptOf row i) k ≡ (marked row k && not (eqb k i))
+unfolding exceptOf
+marked-except row i h k =
+    let one : marked (withOf noMarks i) k ≡ eqb k i = marked-with noMarks i h k ∙ rw (marked-none k) in
+    marked-without row (withOf noMarks i) k ∙ ap (λ (b : Bool). marked row k && not b) one
 
 pub except-is : (row none one r : Row) (i : ℕ) → none ≡ noMarks → one ≡ withOf none i → r ≡ withoutOf row one → r ≡ exceptOf row i
 unfolding exceptOf

@@ -152,8 +152,10 @@ module _ {rows : List Row} {j : ℕ} {out : List Row} {left : Row} {i : ℕ} (s 
       where
         own : marked (getD rows j noMarks) i ≡ true
         own = s .inside i (s .found .has h)
+
         before : getD out i noMarks ≡ partly rows j i false
         before = s .each i h ∙ ap (partly rows j i) (rw (own, s .found .has h))
+
         after : (marked (getD rows j noMarks) i && not (marked new i)) ≡ true
         after = rw (own, gone)
 

@@ -4,7 +4,9 @@ use mathlib.Core.Path.{_≡_}
 use mathlib.Core.Bool.{Bool, false, cond, _&&_}
 use mathlib.Core.List.{List}
 use lib.ListN.{length, getD, take}
-use Rattle.marks.specs.Row.{marked, noMarks}
+use lib.Dec.{ltb}
+use Rattle.reply.specs.Tools.{any}
+use Rattle.marks.specs.Row.{marked, noMarks, orOf}
 use Rattle.marks.specs.declared.Row.{Row}
 use Rattle.network.specs.Lists.{fillTo}
 use Rattle.network.specs.Frame.{processAt}
@@ -27,6 +29,14 @@ releasedFrom time process = cond (releasedAt process time) (process .burst) 0
 -- process p waits for process q, which is pending and ahead of it
 unfoldable pub waitsFor : List ℕ → List Row → ℕ → ℕ → Bool
 waitsFor pending ahead p q = isPending pending q && marked (getD ahead q noMarks) p
+
+-- the marks of `held` and, where a process has jobs pending, those of its row
+unfoldable pub alsoHeld : ℕ → Row → Row → Row
+alsoHeld count row held = cond (ltb 0 count) (orOf held row) held
+
+-- a row marks the processes that wait for one of the first n
+pub record HeldBack (n : ℕ) (pending : List ℕ) (ahead : List Row) (held : Row) : Type 0 where
+  pub marks : (p : ℕ) → marked held p ≡ any n (waitsFor pending ahead p)
 
 -- the first n processes of an array
 pub record GoodProcesses (n : ℕ) (processes : List Process) : Type 0 where

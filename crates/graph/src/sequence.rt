@@ -3,16 +3,15 @@ use crate::Job;
 use marks::Row;
 use network::Process;
 ghost use mathlib.Core.Path.{_≡_};
-ghost use mathlib.Core.Bool.{_&&_};
+ghost use mathlib.Core.Bool.{not, _&&_};
 ghost use Prim.Native.Nat.{_≤_, _<_};
 ghost use lib.Dec.{ltb};
 ghost use lib.ListN.{replicate, take};
-ghost use Rattle.reply.specs.Tools.{any};
 ghost use Rattle.marks.specs.Row.{marked};
 ghost use Rattle.network.specs.Valid.{GoodProcess};
 ghost use Rattle.graph.specs.Order.{rowRelation};
-ghost use Rattle.graph.specs.Sequence.{noJob, isFree, nextFree, sequenceTo};
-ghost use Rattle.graph.specs.SequenceTold.{jobFrom, releasedFrom, waitsFor, GoodProcesses, Sooner, TellsReleased, HoldsJobs, FitsTable};
+ghost use Rattle.graph.specs.Sequence.{noJob, nextFree, sequenceTo};
+ghost use Rattle.graph.specs.SequenceTold.{jobFrom, releasedFrom, alsoHeld, HeldBack, GoodProcesses, Sooner, TellsReleased, HoldsJobs, FitsTable};
 
 // The first `count` jobs are those of the sequence so far; the rest are zero.
 pub struct Jobs {
@@ -87,43 +86,40 @@ fn released_at(processes: [Process; 12], n: usize, time: u32, frame: u32) -> Rel
     Released { next, counts }
 }
 
-// Whether a process of so many pending jobs is ahead of process p, by its row of those that it is ahead of.
-fn holds_back(count: u32, row: Row, p: usize) -> bool
-    ensures { λ r. ⌜ r ≡ (ltb 0 count && marked row p) ⌝ }
+// The marks of `held` and, where a process has jobs pending, those of its row.
+fn also_held(count: u32, row: Row, held: Row) -> Row
+    ensures { λ r. ⌜ r ≡ alsoHeld count row held ⌝ }
 {
     if count == 0 {
-        return false;
+        return held;
     }
-    row.has(p)
+    held.or(row)
 }
 
-// Whether a pending process is ahead of process p, among the first n.
-fn is_held_back(pending: [u32; 12], n: usize, ahead: [Row; 12], p: usize) -> bool
+// The processes that a pending process of the first n is ahead of.
+fn held_back(pending: [u32; 12], n: usize, ahead: [Row; 12]) -> Row
     requires { ⌜ n ≤ 12 ⌝ }
-    ensures { λ r. ⌜ r ≡ any n (waitsFor pending ahead p) ⌝ }
+    ensures { λ r. ⌜ HeldBack n pending ahead r ⌝ }
 {
+    let mut held = Row::empty();
     let mut q = 0usize;
     while q < n {
         let count = pending[q];
         let row = ahead[q];
-        if holds_back(count, row, p) {
-            return true;
-        }
+        held = also_held(count, row, held);
         q += 1;
     }
-    false
+    held
 }
 
-// Whether process p is pending, and no pending process is ahead of it.
-fn is_free(pending: [u32; 12], n: usize, ahead: [Row; 12], p: usize) -> bool
-    requires { ⌜ (n ≤ 12) × (p < n) ⌝ }
-    ensures { λ r. ⌜ r ≡ isFree (rowRelation n ahead) (take n pending) p ⌝ }
+// Whether a process of so many pending jobs is free: it has some, and is not held back.
+fn is_free(count: u32, held: Row, p: usize) -> bool
+    ensures { λ r. ⌜ r ≡ (ltb 0 count && not (marked held p)) ⌝ }
 {
-    let count = pending[p];
     if count == 0 {
         return false;
     }
-    !is_held_back(pending, n, ahead, p)
+    !held.has(p)
 }
 
 // The smallest free process, n if none is free.
@@ -131,9 +127,11 @@ fn next_free(pending: [u32; 12], n: usize, ahead: [Row; 12]) -> usize
     requires { ⌜ n ≤ 12 ⌝ }
     ensures { λ r. ⌜ r ≡ nextFree (rowRelation n ahead) (take n pending) ⌝ }
 {
+    let held = held_back(pending, n, ahead);
     let mut p = 0usize;
     while p < n {
-        if is_free(pending, n, ahead, p) {
+        let count = pending[p];
+        if is_free(count, held, p) {
             return p;
         }
         p += 1;

@@ -8,3 +8,5 @@ pub mod StartLaws
 pub mod PlaceLaws
 pub mod PlannerLaws
 pub mod Promise
+pub mod CheckTold
+pub mod CheckTables

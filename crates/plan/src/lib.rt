@@ -1,1 +1,2 @@
-// Plans: the planner and the plan checker. So far the crate has only their definitions and what is promised of them.
+// Plans: the planner and the plan checker. So far the crate has their definitions, what is promised of them, and the checker on tables.
+mod checking;

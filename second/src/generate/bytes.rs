@@ -58,7 +58,7 @@ pub fn damage(random: &mut Random, file: &mut Vec<u8>) -> &'static str {
 pub fn damage_near(random: &mut Random, file: &mut Vec<u8>, place: usize) -> &'static str {
     let place = file
         .len()
-        .min(place + random.pick(&[0, 0, 1, 1, 1, 2, 2, 3, 3, 4, 5, 8]));
+        .min(place + random.pick(&[0, 0, 0, 0, 1, 1, 1, 2, 2, 3, 3, 4, 5, 8]));
     match random.below(3) {
         0 => {
             file.truncate(place);

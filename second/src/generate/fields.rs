@@ -10,7 +10,7 @@ use crate::rules::{BOARD, VARIABLES};
 type Change = fn(&mut Random, &mut Network);
 
 /// All changes with their names; some stand here more than once to be met more often.
-const CHANGES: [(&str, Change); 36] = [
+const CHANGES: [(&str, Change); 41] = [
     ("process count", process_count),
     ("period", period),
     ("burst", burst),
@@ -21,6 +21,7 @@ const CHANGES: [(&str, Change); 36] = [
     ("pair out of range", pair_out_of_range),
     ("pair of one process", pair_of_one_process),
     ("pair repeated", pair_repeated),
+    ("pair reversed", pair_reversed),
     ("pair reversed", pair_reversed),
     ("cycle", cycle),
     ("cycle", cycle),
@@ -38,9 +39,13 @@ const CHANGES: [(&str, Change); 36] = [
     ("operand", operand),
     ("operand", operand),
     ("operand", operand),
+    ("operand", operand),
+    ("operand", operand),
     ("other's channel", others_channel),
     ("other's channel", others_channel),
     ("operand not zero", operand_not_zero),
+    ("operand not zero", operand_not_zero),
+    ("skip", skip),
     ("skip", skip),
     ("skip as last", skip_as_last),
     ("frame too long", frame_too_long),
@@ -79,11 +84,11 @@ pub fn junk_past_counts(random: &mut Random, network: &mut Network) {
 fn about(random: &mut Random, least: u32, most: u32) -> u32 {
     let aliased = [1 << 8, 1 << 16, 1 << 31].map(|high| least.wrapping_add(high));
     match random.below(10) {
-        0 | 1 => least.saturating_sub(1),
-        2 => least,
+        0 | 1 if least > 0 => least - 1,
+        0..=2 => least,
         3 | 4 => most,
-        5 | 6 => most.saturating_add(1),
-        7 => random.pick(&aliased),
+        5..=7 => most.saturating_add(1),
+        8 => random.pick(&aliased),
         _ => random.word(),
     }
 }
@@ -284,14 +289,13 @@ fn some_action(random: &mut Random, network: &Network) -> (usize, usize) {
     (process, index)
 }
 
-/// Puts a sound action with one of these heads in the place of some action and gives it.
+/// Puts a sound action with this head in the place of some action, if it can, and gives it.
 fn sound_action<'a>(
     random: &mut Random,
     network: &'a mut Network,
-    heads: &[u32],
+    head: u32,
 ) -> &'a mut FourNumbers {
     let (process, index) = some_action(random, network);
-    let head = random.pick(heads);
     if let Some(action) = programs::of_head(random, network, process, index, head) {
         network.actions[process][index] = action;
     }
@@ -299,14 +303,33 @@ fn sound_action<'a>(
 }
 
 fn unknown_action(random: &mut Random, network: &mut Network) {
-    let head = about(random, 0, 7);
-    sound_action(random, network, &[0, 1, 2, 3, 4, 5, 6, 7])[0] = head;
+    let (sound, unknown) = (random.within(0, 7), about(random, 0, 7));
+    sound_action(random, network, sound)[0] = unknown;
 }
 
+/// A variable or channel out of range, or just within.
 fn operand(random: &mut Random, network: &mut Network) {
+    const OPERANDS: [(u32, usize); 16] = [
+        (0, 1),
+        (1, 1),
+        (1, 2),
+        (1, 3),
+        (2, 1),
+        (2, 2),
+        (2, 3),
+        (3, 1),
+        (3, 2),
+        (3, 3),
+        (4, 1),
+        (4, 2),
+        (5, 1),
+        (5, 2),
+        (6, 1),
+        (7, 1),
+    ];
+    let (head, place) = random.pick(&OPERANDS);
     let operand = about(random, 0, VARIABLES - 1);
-    let place = random.within(1, 3) as usize;
-    sound_action(random, network, &[0, 1, 2, 3, 4, 5, 6, 7])[place] = operand;
+    sound_action(random, network, head)[place] = operand;
 }
 
 /// A read or write of any channel, of this process or another, or of one just past the last.
@@ -323,11 +346,10 @@ fn others_channel(random: &mut Random, network: &mut Network) {
 }
 
 fn operand_not_zero(random: &mut Random, network: &mut Network) {
+    const ZEROS: [(u32, usize); 6] = [(0, 3), (4, 3), (5, 3), (6, 2), (6, 3), (7, 3)];
+    let (head, place) = random.pick(&ZEROS);
     let number = about(random, 0, 0);
-    let second = random.chance(50);
-    let action = sound_action(random, network, &[0, 4, 5, 6, 6, 7]);
-    let place = if action[0] == 6 && second { 2 } else { 3 };
-    action[place] = number;
+    sound_action(random, network, head)[place] = number;
 }
 
 /// A skip of none, up to the end, past the end, or so far that a sum would begin anew.

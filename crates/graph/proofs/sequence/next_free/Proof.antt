@@ -6,23 +6,27 @@ use Rattle.graph.proofs.sequence.next_free.Statement.{statement}
 use Rattle.graph.proofs.sequence.next_free.Tie as tie
 
 abbrev Inv-loop : tie.InvT-loop
-Inv-loop pending n ahead p₀ p = (p ≤ n) × NoneFree n pending ahead p
+Inv-loop n pending held p₀ p = (p ≤ n) × NoneFree pending held p
 
 abbrev μ-loop : tie.MeasureT-loop
-μ-loop pending n ahead p₀ p = n - p
+μ-loop n pending held p₀ p = n - p
 
 returns : tie.Need-returns Inv-loop μ-loop
 returns c =
-    let in-loop = c .before .before in
-    free-found _ _ _ (search needs) _ (in-loop .before .loop .inv .1) _ (in-loop .loop-test .taken) (c .before .is-free .ensures) (c .if1 .taken)
+    let tested = c .before in
+    let in-loop = tested .before in
+    let at = in-loop .before in
+    free-found _ _ _ (search needs) _ (at .before .held-back .ensures) _ (at .loop .inv .1) _ (in-loop .loop-test .taken) (tested .is-free .ensures) (c .if1 .taken)
 
 loop-again : tie.Need-loop-again Inv-loop μ-loop
 loop-again c =
-    let at = c .before .before .before in
-    (search needs, free-goes-on _ _ _ _ _ (at .loop .inv .1) (c .before .is-free .ensures) (c .if1 .left))
+    let tested = c .before in
+    (search needs, free-goes-on _ _ _ _ (tested .before .before .loop .inv .1) (tested .is-free .ensures) (c .if1 .left))
 
 returns-2 : tie.Need-returns-2 Inv-loop μ-loop
-returns-2 c = free-none _ _ _ (search needs) _ (c .before .loop .inv .1) (c .before .loop .inv .0) (c .loop-test .left)
+returns-2 c =
+    let at = c .before in
+    free-none _ _ _ (search needs) _ (at .before .held-back .ensures) _ (at .loop .inv .1) (at .loop .inv .0) (c .loop-test .left)
 
 pub next-free-spec : {M : Type 1} → statement M
 next-free-spec =
@@ -30,7 +34,10 @@ next-free-spec =
     (tie.spec
     Inv-loop
     μ-loop
-    (λ c. (search needs, free-begins _ _ _))
+    (λ c κs. search needs)
+    (λ c. (search needs, free-begins _ _))
+    (λ c. search needs)
+    (λ c. search needs)
     (λ c κs. search needs)
     returns
     (λ c. search needs)

@@ -1,14 +1,13 @@
 -- `sequence::sequence` meets its contract. The outer loop's invariant is that the table holds the jobs released so far; its measure, the time left.
 -- The inner loop's is `Taking`; its measure, the jobs still pending.
 use borrow.Author.Needs.{needs}
-use Prim.Native.Nat.{_+_, _-_, _≤_, _<_}
+use Prim.Native.Nat.{_-_, _≤_, _<_}
 use native.Mathlib.Omega.{arith}
 use lib.ListN.{take}
 use Rattle.graph.specs.Order.{rowRelation}
 use Rattle.graph.specs.Sequence.{pendingCount, sequenceTo}
 use Rattle.graph.specs.SequenceTold.{HoldsJobs}
-use Rattle.graph.proofs.SequenceLoops.{Taking, taking-begins, taking-some, taking-less, taking-room, taking-goes-on, taking-ends}
-use Rattle.graph.proofs.SequenceLoops.{times-begin, times-go-on, times-end, good-of, room-of}
+use Rattle.graph.proofs.SequenceLoops.{Taking, taking-begins, taking-some, taking-less, taking-room, taking-goes-on, taking-ends, times-begin, times-go-on, times-end, good-of, room-of}
 use Rattle.graph.proofs.sequence.sequence.Statement.{statement}
 use Rattle.graph.proofs.sequence.sequence.Tie as tie
 

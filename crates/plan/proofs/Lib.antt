@@ -1,0 +1,2 @@
+mod CheckCases
+mod CheckLoops
