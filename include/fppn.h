@@ -13,14 +13,22 @@
  *    1    the file ends in or before a number                               that number
  *    2    malformed number                                                  that number
  *    3    version not 1                                                     0
- *    4    field or count beyond its range                                   that number; 0 for frames (1 to 100)
+ *    4    field or count beyond its range                                   that number; 0 for processors (1 to 4) and frames (1 to 100)
  *    5    pair out of range, of one process, repeated; pairs form a cycle   pair; byte after the pairs
  *    6    channel end out of range, both equal, or without a pair           channel
  *    7    unknown action, operand out of range, not that channel's end      action
  *    8    bytes left over                                                   first of them
  *    9    frame above 2000 ticks or more than 128 jobs                      byte after the process records
  *   10    lent memory is shorter than what the call reads or fills          0
+ *   11    a plan's job is on no processor                                   job
+ *   12    it starts before its release                                      job
+ *   13    it ends after its deadline                                        job
+ *   14    it overlaps a lower-numbered job on its processor                 job
+ *   15    it starts before a job ends that precedes it                      job
  *   16    sample with present above 1, or a value without present           sample
+ *   17    turn of no processor                                              turn
+ *   18    duration above the job's budget                                   job
+ *   19    the planner's rule misses a deadline                              first such job placed
  *
  * Places in a file are byte offsets. The file's format is in the README.
  */
@@ -106,6 +114,22 @@ typedef struct {
     fppn_held channels[16];
 } fppn_ran;
 
+typedef struct {
+    uint32_t reply;
+    size_t place;
+    size_t frames;  /* finished */
+    size_t jobs;    /* finished in the present frame; 0 after the last frame */
+    size_t working; /* turns that worked, and that waited */
+    size_t waiting;
+    uint32_t variables[96];
+    fppn_held channels[16];
+} fppn_turned;
+
+typedef struct {
+    uint32_t reply;
+    size_t place;
+} fppn_answer;
+
 /* Reads a network file. Replies 0 to 9. */
 fppn_loaded fppn_read(const uint8_t *file, size_t file_length);
 
@@ -121,6 +145,26 @@ fppn_graph_result fppn_graph(const uint8_t *file, size_t file_length);
    2 * J * frames numbers, and what lies beyond is neither read nor changed. Replies 0 to 10 and 16. */
 fppn_ran fppn_zero_delay(const uint8_t *file, size_t file_length, uint32_t frames, const uint32_t *input, size_t input_length, uint32_t *output,
                          size_t output_length);
+
+/* Plans a frame for 1 to 4 processors. A plan has two numbers for each of the J jobs, processor and start; they go to the front of `out`. Among the jobs
+   whose predecessors are placed the planner takes that of least deadline, then of least number, and puts it where it starts earliest, then on the
+   smallest processor. Replies 0 to 10 and 19; 19 does not say that there is no plan. */
+fppn_answer fppn_plan(const uint8_t *file, size_t file_length, uint32_t processors, uint32_t *out, size_t out_length);
+
+/* Checks a plan, whoever made it: the least faulty job, and its first fault. Numbers beyond 2 * J are not read. Replies 0 to 15. */
+fppn_answer fppn_check(const uint8_t *file, size_t file_length, uint32_t processors, const uint32_t *plan, size_t plan_length);
+
+/* The turn run: the jobs of a plan on 1 to 4 processors, for 1 to 100 frames. A turn is the number of a processor. With no job under way it starts its
+   next job in planned order if all that precede it have finished; with one under way it does one action; else it waits. Samples as in the zero-delay run;
+   a job that has not finished leaves 0, 0. Replies 0 to 17. */
+fppn_turned fppn_turns(const uint8_t *file, size_t file_length, uint32_t processors, uint32_t frames, const uint32_t *plan, size_t plan_length,
+                       const uint32_t *input, size_t input_length, const uint32_t *turns, size_t turns_length, uint32_t *output,
+                       size_t output_length);
+
+/* The timed run of one frame on a plan: `durations` has a number for each job, 0 to its budget; `out` gets two for each, start and end. A job starts at
+   the latest of its release, the ends of the jobs that precede it, and the end of the job before it on its processor. Replies 0 to 15 and 18. */
+fppn_answer fppn_timed(const uint8_t *file, size_t file_length, uint32_t processors, const uint32_t *plan, size_t plan_length,
+                       const uint32_t *durations, size_t durations_length, uint32_t *out, size_t out_length);
 
 #ifdef __cplusplus
 }

@@ -4,7 +4,8 @@ use crate::graph::Graph;
 use crate::machine::{Final, Held};
 use crate::network::{Channel, Network, Pair, Process};
 use crate::refusal::Refusal;
-use crate::{graph, read, write, zero_delay};
+use crate::turns::{Request, TurnsRan};
+use crate::{graph, plan, read, timed, turns, write, zero_delay};
 
 fn process(process: Process) -> fppn::Process {
     let Process {
@@ -137,21 +138,90 @@ fn fill_graph(graph: &Graph, result: &mut fppn::GraphResult) {
 pub fn zero_delay(file: &[u8], frames: u32, input: &[u32], output: &mut [u32]) -> fppn::Ran {
     let answer = zero_delay::zero_delay(file, frames, input, output);
     let (reply, place) = reply_and_place(&answer);
-    let mut ran = fppn::Ran {
+    let (variables, channels) = left(answer.as_ref().ok());
+    fppn::Ran {
         reply,
         place,
-        variables: [0; fppn::VARIABLE_WORDS],
-        channels: [held(Held::default()); fppn::CHANNELS],
-    };
-    if let Ok(Final {
         variables,
         channels,
-    }) = answer
-    {
-        for (words, variables) in ran.variables.chunks_exact_mut(8).zip(&variables) {
+    }
+}
+
+/// The words of variables and channels at the end of a run, all zero if there was none.
+fn left(left: Option<&Final>) -> ([u32; fppn::VARIABLE_WORDS], [fppn::Held; fppn::CHANNELS]) {
+    let mut words = [0; fppn::VARIABLE_WORDS];
+    let mut channels = [held(Held::default()); fppn::CHANNELS];
+    if let Some(left) = left {
+        for (words, variables) in words.chunks_exact_mut(8).zip(&left.variables) {
             words.copy_from_slice(variables.words());
         }
-        ran.channels = channels.map(held);
+        channels = left.channels.map(held);
     }
-    ran
+    (words, channels)
+}
+
+/// An answer that has nothing beside reply and place.
+fn bare(answer: Result<(), Refusal>) -> fppn::Answer {
+    let (reply, place) = reply_and_place(&answer);
+    fppn::Answer { reply, place }
+}
+
+/// Plans a network file into `out`.
+pub fn plan(file: &[u8], processors: u32, out: &mut [u32]) -> fppn::Answer {
+    bare(plan::plan(file, processors, out))
+}
+
+/// Checks a plan of a network file.
+pub fn check(file: &[u8], processors: u32, plan: &[u32]) -> fppn::Answer {
+    bare(plan::check(file, processors, plan))
+}
+
+/// A turn run asked of this implementation.
+pub fn request<'a>(asked: &fppn::Turns<'a>) -> Request<'a> {
+    let fppn::Turns {
+        file,
+        processors,
+        frames,
+        plan,
+        input,
+        turns,
+    } = *asked;
+    Request {
+        file,
+        processors,
+        frames,
+        plan,
+        input,
+        turns,
+    }
+}
+
+/// Runs a network file in turns.
+pub fn turns(asked: &fppn::Turns, output: &mut [u32]) -> fppn::Turned {
+    let answer = turns::run_turns(&request(asked), output);
+    let (reply, place) = reply_and_place(&answer);
+    let ran = answer.ok();
+    let (variables, channels) = left(ran.as_ref().map(|ran| &ran.left));
+    let count = |of: fn(&TurnsRan) -> usize| ran.as_ref().map_or(0, of);
+    fppn::Turned {
+        reply,
+        place,
+        frames: count(|ran| ran.frames_finished as usize),
+        jobs: count(|ran| ran.jobs_finished as usize),
+        working: count(|ran| ran.working_turns),
+        waiting: count(|ran| ran.waiting_turns),
+        variables,
+        channels,
+    }
+}
+
+/// Gives the starts and ends of a plan's jobs with these durations.
+pub fn timed(
+    file: &[u8],
+    processors: u32,
+    plan: &[u32],
+    durations: &[u32],
+    out: &mut [u32],
+) -> fppn::Answer {
+    bare(timed::run_timed(file, processors, plan, durations, out))
 }

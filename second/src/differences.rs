@@ -102,25 +102,45 @@ impl Answer for fppn::Ran {
 
     fn words(&self) -> Vec<Named> {
         let mut words = head(self.reply, self.place);
-        list(&mut words, "variables", &self.variables);
-        for (number, channel) in self.channels.iter().enumerate() {
-            list(
-                &mut words,
-                &format!("channels[{number}].held"),
-                &[channel.held],
-            );
-            list(
-                &mut words,
-                &format!("channels[{number}].values"),
-                &channel.values,
-            );
-            list(
-                &mut words,
-                &format!("channels[{number}].loss"),
-                &[channel.loss],
-            );
-        }
+        left(&mut words, &self.variables, &self.channels);
         words
+    }
+}
+
+impl Answer for fppn::Answer {
+    fn reply(&self) -> u32 {
+        self.reply
+    }
+
+    fn words(&self) -> Vec<Named> {
+        head(self.reply, self.place)
+    }
+}
+
+impl Answer for fppn::Turned {
+    fn reply(&self) -> u32 {
+        self.reply
+    }
+
+    fn words(&self) -> Vec<Named> {
+        let mut words = head(self.reply, self.place);
+        words.push(("frames".into(), self.frames as u64));
+        words.push(("jobs".into(), self.jobs as u64));
+        words.push(("working".into(), self.working as u64));
+        words.push(("waiting".into(), self.waiting as u64));
+        left(&mut words, &self.variables, &self.channels);
+        words
+    }
+}
+
+/// Adds what a run leaves.
+fn left(words: &mut Vec<Named>, variables: &[u32], channels: &[fppn::Held]) {
+    list(words, "variables", variables);
+    for (number, channel) in channels.iter().enumerate() {
+        let name = |part: &str| format!("channels[{number}].{part}");
+        list(words, &name("held"), &[channel.held]);
+        list(words, &name("values"), &channel.values);
+        list(words, &name("loss"), &[channel.loss]);
     }
 }
 

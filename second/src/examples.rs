@@ -190,3 +190,79 @@ fn overlap_is_named_before_a_predecessor() {
         Err(Reply::Overlap.at(2))
     );
 }
+
+#[test]
+fn processors_then_file_then_memory_then_plan() {
+    let mut words = [7; 8];
+    for processors in [0, 5, u32::MAX] {
+        assert_eq!(plan(&[], processors, &mut words), Err(Reply::Range.at(0)));
+        assert_eq!(check(&[], processors, &[]), Err(Reply::Range.at(0)));
+    }
+    assert_eq!(plan(&[], 4, &mut []), Err(Reply::EndsEarly.at(0)));
+    assert_eq!(check(&[], 4, &[]), Err(Reply::EndsEarly.at(0)));
+    let short = Err(Reply::ShortBuffer.at(0));
+    assert_eq!(plan(&K, 1, &mut words[..7]), short);
+    assert_eq!(check(&K, 1, &[9; 7]), short);
+    assert_eq!(check(&K, 1, &[9; 8]), Err(Reply::Processor.at(0)));
+    assert_eq!(words, [7; 8]);
+    let longer = [0, 0, 0, 3, 0, 7, 0, 13, 9, 9];
+    assert_eq!(check(&K, 1, &longer), Ok(()));
+}
+
+#[test]
+fn turn_runs_are_judged_in_order() {
+    let mut input = [0; 9];
+    let mut plan = K_PLAN;
+    let asked = |plan: &[u32], input: &[u32], turns: &[u32]| {
+        let request = Request {
+            file: &K,
+            processors: 2,
+            frames: 1,
+            plan,
+            input,
+            turns,
+        };
+        let mut output = [7; 8];
+        let refusal = run_turns(&request, &mut output).map(|_| ());
+        assert!(refusal.is_ok() || output == [7; 8]);
+        refusal
+    };
+    input[8] = 9;
+    assert_eq!(asked(&plan, &input, &[]), Ok(()));
+    assert_eq!(asked(&plan, &input, &[1, 2]), Err(Reply::Turn.at(1)));
+    input[5] = 1;
+    assert_eq!(asked(&plan, &input, &[1, 2]), Err(Reply::Sample.at(2)));
+    plan[6] = 2;
+    assert_eq!(asked(&plan, &input, &[2]), Err(Reply::Processor.at(3)));
+    assert_eq!(
+        asked(&plan[..7], &input, &[2]),
+        Err(Reply::ShortBuffer.at(0))
+    );
+    assert_eq!(
+        asked(&plan, &input[..7], &[2]),
+        Err(Reply::ShortBuffer.at(0))
+    );
+}
+
+#[test]
+fn timed_runs_are_judged_in_order() {
+    let mut plan = K_PLAN;
+    let mut times = [7; 8];
+    let long = [4, 4, 6, 4];
+    let refusal = run_timed(&K, 2, &plan, &long, &mut times);
+    assert_eq!(refusal, Err(Reply::Duration.at(0)));
+    plan[7] = 17;
+    let refusal = run_timed(&K, 2, &plan, &long, &mut times);
+    assert_eq!(refusal, Err(Reply::EndsLate.at(3)));
+    for (plan, durations, words) in [(7, 4, 8), (8, 3, 8), (8, 4, 7)] {
+        let refusal = run_timed(
+            &K,
+            2,
+            &K_PLAN[..plan],
+            &long[..durations],
+            &mut times[..words],
+        );
+        assert_eq!(refusal, Err(Reply::ShortBuffer.at(0)));
+    }
+    assert_eq!(times, [7; 8]);
+}

@@ -1,20 +1,28 @@
-//! The generator of cases. A case is a network, a file, memory to lend, and a run to ask for; the
-//! seed and the case's number determine all of it.
+//! The generator of cases. A case is a network, a file, memory to lend, a run to ask for, and
+//! plans; the seed and the case's number determine all of it.
 
 pub mod bytes;
+pub mod durations;
+pub mod faults;
+pub mod feasible;
 pub mod fields;
 pub mod file;
 pub mod networks;
+pub mod plans;
 pub mod processes;
 pub mod programs;
 pub mod random;
 pub mod runs;
+pub mod turns;
 
 use crate::frame;
 use crate::network::Network;
 use crate::read;
+use durations::TimedRun;
+use plans::{Given, Subject, Wanted};
 use random::Random;
 use runs::Run;
+use turns::TurnRun;
 
 /// What both implementations are given.
 #[derive(Clone, Debug)]
@@ -22,11 +30,18 @@ pub struct Case {
     pub kind: String,
     /// The fields handed to the writer.
     pub network: Network,
-    /// The file handed to all other calls.
+    /// The file handed to the other calls that take no plan.
     pub file: Vec<u8>,
     /// The lengths of memory lent to the writer, one call each.
     pub rooms: [usize; 4],
     pub run: Run,
+    /// The file handed to the calls about plans.
+    pub subject: Subject,
+    pub wanted: Wanted,
+    /// Plans handed to the checker, one call each.
+    pub given: [Given; 3],
+    pub turn_run: TurnRun,
+    pub timed_run: TimedRun,
 }
 
 /// Case `number` of a seed.
@@ -56,12 +71,18 @@ pub fn case(seed: u64, number: u64) -> Case {
     let jobs = jobs_of(&file).unwrap_or(random.within(1, 130) as usize);
     let run = runs::any(&mut random, jobs);
     let rooms = [length, length - 1, length + 1, 0];
+    let subject = Subject::any(&mut random, &file);
     Case {
         kind,
         network,
         file,
         rooms,
         run,
+        wanted: Wanted::any(&mut random, &subject),
+        given: std::array::from_fn(|_| Given::any(&mut random, &subject)),
+        turn_run: TurnRun::any(&mut random, &subject),
+        timed_run: TimedRun::any(&mut random, &subject),
+        subject,
     }
 }
 
@@ -105,6 +126,11 @@ mod tests {
             assert_eq!(one.network, other.network);
             assert_eq!(one.file, other.file);
             assert_eq!(one.run, other.run);
+            assert_eq!(one.subject.file, other.subject.file);
+            assert_eq!(one.wanted, other.wanted);
+            assert_eq!(one.given, other.given);
+            assert_eq!(one.turn_run, other.turn_run);
+            assert_eq!(one.timed_run, other.timed_run);
         }
         assert_ne!(case(7, 0).file, case(8, 0).file);
     }

@@ -9,6 +9,16 @@ use crate::relation::{Chains, Relation};
 /// A row of 128 marks, one for each job.
 pub type Row = u128;
 
+/// The numbers that a row marks, from the least on.
+pub fn marked(row: Row) -> impl Iterator<Item = usize> {
+    let mut left = row;
+    std::iter::from_fn(move || {
+        let least = left.trailing_zeros() as usize;
+        left &= left.wrapping_sub(1);
+        (least < JOBS).then_some(least)
+    })
+}
+
 /// The jobs of a frame and the edges that stay: bit k of row i marks one from job i to job k.
 #[derive(Clone, Debug)]
 pub struct Graph {
@@ -29,21 +39,36 @@ pub fn graph(file: &[u8]) -> Result<Graph, Refusal> {
 
 /// Row i marks the later jobs of the same process or of related ones.
 pub fn precedence(jobs: &[Job], chains: &Chains) -> [Row; JOBS] {
-    let mut of_process = [0; PROCESSES];
-    for (number, job) in jobs.iter().enumerate() {
-        of_process[job.process as usize] |= 1 << number;
-    }
-    let related = chains.related();
-    let of_related = related.map(|set| {
-        let members = (0..PROCESSES).filter(|process| set >> process & 1 == 1);
-        members.fold(0, |row, process| row | of_process[process])
-    });
+    let of_related = of_related(jobs, chains);
     let mut rows: [Row; JOBS] = [0; JOBS];
     for (number, job) in jobs.iter().enumerate() {
         let later = Row::MAX << number << 1;
         rows[number] = of_related[job.process as usize] & later;
     }
     rows
+}
+
+/// Row i marks the earlier jobs of the same process or of related ones.
+pub fn predecessors(jobs: &[Job], chains: &Chains) -> [Row; JOBS] {
+    let of_related = of_related(jobs, chains);
+    let mut rows: [Row; JOBS] = [0; JOBS];
+    for (number, job) in jobs.iter().enumerate() {
+        let earlier = (1 << number) - 1;
+        rows[number] = of_related[job.process as usize] & earlier;
+    }
+    rows
+}
+
+/// For each process, the jobs of its own and of related ones.
+fn of_related(jobs: &[Job], chains: &Chains) -> [Row; PROCESSES] {
+    let mut of_process = [0; PROCESSES];
+    for (number, job) in jobs.iter().enumerate() {
+        of_process[job.process as usize] |= 1 << number;
+    }
+    chains.related().map(|set| {
+        let members = (0..PROCESSES).filter(|process| set >> process & 1 == 1);
+        members.fold(0, |row, process| row | of_process[process])
+    })
 }
 
 /// Keeps the edges whose ends no other path joins. Successors are taken from the nearest on: one
@@ -84,6 +109,29 @@ mod tests {
             }
         }
         false
+    }
+
+    #[test]
+    fn marks_are_named_in_order() {
+        let row = 1 | 1 << 3 | 1 << 64 | 1 << 127;
+        assert_eq!(marked(row).collect::<Vec<_>>(), [0, 3, 64, 127]);
+        assert_eq!(marked(0).next(), None);
+    }
+
+    #[test]
+    fn both_directions_agree() {
+        for seed in 0..60 {
+            let network = networks::any(&mut Random::new(seed)).1;
+            let relation = Relation::of(&network);
+            let frame = Frame::of(&network, &relation);
+            let after = precedence(frame.jobs(), &relation.chains());
+            let before = predecessors(frame.jobs(), &relation.chains());
+            for (from, row) in after.iter().enumerate() {
+                for (to, row_before) in before.iter().enumerate() {
+                    assert_eq!(row >> to & 1, row_before >> from & 1);
+                }
+            }
+        }
     }
 
     #[test]

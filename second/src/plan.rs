@@ -1,12 +1,12 @@
 //! The planner and the plan checker. A plan has two words for each job, processor and start.
 
 use crate::frame::{Frame, Job, JOBS};
-use crate::graph::{precedence, Row};
+use crate::graph::{marked, predecessors, Row};
 use crate::network::Network;
 use crate::read::read;
 use crate::refusal::{Refusal, Reply};
 use crate::relation::Relation;
-use crate::rules::{self, PROCESSORS};
+use crate::rules::PROCESSORS;
 
 /// A network with what plans need: its jobs and, for each job, those that precede it.
 #[derive(Clone, Debug)]
@@ -19,14 +19,13 @@ pub struct Task {
 impl Task {
     /// Judges the number of processors, then the file.
     pub fn of(file: &[u8], processors: u32) -> Result<Self, Refusal> {
-        if !rules::PROCESSORS.contains(&processors) {
+        if !PROCESSORS.contains(&processors) {
             return Err(Reply::Range.at(0));
         }
         let network = read(file)?;
         let relation = Relation::of(&network);
         let frame = Frame::of(&network, &relation);
-        let after = precedence(frame.jobs(), &relation.chains());
-        let before = transpose(&after);
+        let before = predecessors(frame.jobs(), &relation.chains());
         Ok(Task {
             network,
             frame,
@@ -39,24 +38,14 @@ impl Task {
     }
 
     /// The numbers of the jobs that precede a job.
-    pub fn predecessors(&self, job: usize) -> impl Iterator<Item = usize> + '_ {
-        (0..job).filter(move |lower| self.before[job] >> lower & 1 == 1)
+    pub fn predecessors(&self, job: usize) -> impl Iterator<Item = usize> {
+        marked(self.before[job])
     }
 
     /// The words of a plan that a call reads or fills.
     pub fn plan_words(&self) -> usize {
         2 * self.jobs().len()
     }
-}
-
-fn transpose(rows: &[Row; JOBS]) -> [Row; JOBS] {
-    let mut turned = [0; JOBS];
-    for (number, row) in rows.iter().enumerate() {
-        for (other, turned_row) in turned.iter_mut().enumerate() {
-            *turned_row |= (row >> other & 1) << number;
-        }
-    }
-    turned
 }
 
 /// Plans a network file for `processors` processors into the front of `plan`.
@@ -76,7 +65,8 @@ pub fn plan(file: &[u8], processors: u32, plan: &mut [u32]) -> Result<(), Refusa
 /// A plan in the making.
 struct Planner<'a> {
     task: &'a Task,
-    placed: Row,
+    /// The jobs that are not placed yet.
+    left: Row,
     words: [u32; 2 * JOBS],
     ends: [u32; JOBS],
     /// The end of the last job on each processor.
@@ -87,7 +77,7 @@ impl<'a> Planner<'a> {
     fn of(task: &'a Task, processors: usize) -> Self {
         Planner {
             task,
-            placed: 0,
+            left: Row::MAX >> (JOBS - task.jobs().len()),
             words: [0; 2 * JOBS],
             ends: [0; JOBS],
             free_from: vec![0; processors],
@@ -97,9 +87,7 @@ impl<'a> Planner<'a> {
     /// Among the jobs whose predecessors are placed, that of least deadline, then least number.
     fn choose(&self) -> usize {
         let jobs = self.task.jobs();
-        let ready = (0..jobs.len()).filter(|&job| {
-            self.placed >> job & 1 == 0 && self.task.before[job] & !self.placed == 0
-        });
+        let ready = marked(self.left).filter(|&job| self.task.before[job] & self.left == 0);
         let chosen = ready.min_by_key(|&job| (jobs[job].deadline, job));
         chosen.expect("the least job not yet placed is ready")
     }
@@ -121,7 +109,7 @@ impl<'a> Planner<'a> {
         self.words[2 * number + 1] = start;
         self.ends[number] = end;
         self.free_from[processor] = end;
-        self.placed |= 1 << number;
+        self.left &= !(1 << number);
         Ok(())
     }
 }
@@ -137,39 +125,82 @@ pub fn check(file: &[u8], processors: u32, plan: &[u32]) -> Result<(), Refusal> 
 
 /// Names the least faulty job and its first fault.
 pub fn check_plan(task: &Task, processors: u32, plan: &[u32]) -> Result<(), Refusal> {
-    let faults = (0..task.jobs().len()).map(|job| (job, fault(task, processors, plan, job)));
-    for (job, fault) in faults {
-        if let Some(reply) = fault {
-            return Err(reply.at(job));
+    let judge = Judge::of(task, processors, plan);
+    for job in 0..task.jobs().len() {
+        if let Some(fault) = FAULTS.into_iter().find(|&fault| judge.has(fault, job)) {
+            return Err(fault.at(job));
         }
     }
     Ok(())
 }
 
-/// The first fault of a job.
-fn fault(task: &Task, processors: u32, plan: &[u32], job: usize) -> Option<Reply> {
-    let jobs = task.jobs();
-    let processor = |job: usize| plan[2 * job];
-    let start = |job: usize| u64::from(plan[2 * job + 1]);
-    let end = |job: usize| start(job) + u64::from(jobs[job].budget);
-    let overlaps = |lower: usize| {
-        processor(lower) == processor(job) && start(lower) < end(job) && start(job) < end(lower)
-    };
-    if processor(job) >= processors {
-        return Some(Reply::Processor);
+/// The faults of a job in a plan, in the order in which they are looked for.
+pub const FAULTS: [Reply; 5] = [
+    Reply::Processor,
+    Reply::BeforeRelease,
+    Reply::EndsLate,
+    Reply::Overlap,
+    Reply::BeforePredecessor,
+];
+
+/// Where a plan puts a job.
+#[derive(Clone, Copy, Debug)]
+struct Place {
+    processor: u32,
+    start: u64,
+    end: u64,
+}
+
+impl Place {
+    /// The end is computed without a limit, for the words may be any.
+    fn of((words, job): (&[u32], &Job)) -> Self {
+        let start = u64::from(words[1]);
+        Place {
+            processor: words[0],
+            start,
+            end: start + u64::from(job.budget),
+        }
     }
-    if start(job) < u64::from(jobs[job].release) {
-        return Some(Reply::BeforeRelease);
+
+    fn overlaps(&self, other: &Place) -> bool {
+        self.processor == other.processor && self.start < other.end && other.start < self.end
     }
-    if end(job) > u64::from(jobs[job].deadline) {
-        return Some(Reply::EndsLate);
+}
+
+/// A plan under judgement.
+#[derive(Clone, Debug)]
+pub struct Judge<'a> {
+    task: &'a Task,
+    processors: u32,
+    places: Vec<Place>,
+}
+
+impl<'a> Judge<'a> {
+    pub fn of(task: &'a Task, processors: u32, plan: &[u32]) -> Self {
+        let words = plan.chunks_exact(2).zip(task.jobs());
+        Judge {
+            task,
+            processors,
+            places: words.map(Place::of).collect(),
+        }
     }
-    if (0..job).any(overlaps) {
-        return Some(Reply::Overlap);
+
+    /// Whether a job has one of the faults, whatever others it has.
+    pub fn has(&self, fault: Reply, number: usize) -> bool {
+        let (place, job) = (&self.places[number], &self.task.jobs()[number]);
+        let mut lower = self.places[..number].iter().enumerate();
+        match fault {
+            Reply::Processor => place.processor >= self.processors,
+            Reply::BeforeRelease => place.start < u64::from(job.release),
+            Reply::EndsLate => place.end > u64::from(job.deadline),
+            Reply::Overlap => lower.any(|(_, lower)| lower.overlaps(place)),
+            Reply::BeforePredecessor => {
+                let precedes = |lower: usize| self.task.before[number] >> lower & 1 == 1;
+                lower.any(|(number, lower)| place.start < lower.end && precedes(number))
+            }
+            _ => false,
+        }
     }
-    let mut predecessors = task.predecessors(job);
-    let too_early = predecessors.any(|lower| start(job) < end(lower));
-    too_early.then_some(Reply::BeforePredecessor)
 }
 
 /// The jobs of each processor in planned order: by start.

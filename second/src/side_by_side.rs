@@ -3,7 +3,10 @@
 
 use crate::as_library;
 use crate::differences::{of_answers, of_memory, Answer};
+use crate::generate::durations::TimedRun;
+use crate::generate::plans::{Given, Wanted};
 use crate::generate::runs::Run;
+use crate::generate::turns::TurnRun;
 use crate::generate::Case;
 use crate::network::Network;
 
@@ -14,10 +17,23 @@ pub enum Call {
     Write,
     Graph,
     ZeroDelay,
+    Plan,
+    Check,
+    Turns,
+    Timed,
 }
 
 impl Call {
-    pub const ALL: [Call; 4] = [Call::Read, Call::Write, Call::Graph, Call::ZeroDelay];
+    pub const ALL: &[Call] = &[
+        Call::Read,
+        Call::Write,
+        Call::Graph,
+        Call::ZeroDelay,
+        Call::Plan,
+        Call::Check,
+        Call::Turns,
+        Call::Timed,
+    ];
 
     pub fn name(self) -> &'static str {
         match self {
@@ -25,6 +41,10 @@ impl Call {
             Call::Write => "write",
             Call::Graph => "graph",
             Call::ZeroDelay => "zero-delay",
+            Call::Plan => "plan",
+            Call::Check => "check",
+            Call::Turns => "turns",
+            Call::Timed => "timed",
         }
     }
 }
@@ -82,6 +102,11 @@ pub fn all_calls(case: &Case) -> Vec<Outcome> {
         .iter()
         .map(|&room| write(&case.network, &network, room));
     outcomes.extend(writes);
+    let file = &case.subject.file;
+    outcomes.push(plan(file, &case.wanted));
+    outcomes.extend(case.given.iter().map(|given| check(file, given)));
+    outcomes.push(turns(file, &case.turn_run));
+    outcomes.push(timed(file, &case.timed_run));
     outcomes
 }
 
@@ -122,4 +147,78 @@ fn write(network: &Network, for_library: &fppn::Network, room: usize) -> Outcome
     let second = as_library::write(network, lent(&mut second_out));
     let memory = of_memory("out", GUARD, &library_out, &second_out);
     outcome(Call::Write, &library, &second, memory)
+}
+
+fn plan(file: &[u8], wanted: &Wanted) -> Outcome {
+    let lent_file = file.to_vec();
+    let mut library_out = patterned(wanted.out_length, word_pattern);
+    let mut second_out = library_out.clone();
+    let library = fppn::plan(&lent_file, wanted.processors, lent(&mut library_out));
+    let second = as_library::plan(file, wanted.processors, lent(&mut second_out));
+    let mut memory = of_memory("out", GUARD, &library_out, &second_out);
+    memory.extend(of_memory("file", 0, &lent_file, file));
+    outcome(Call::Plan, &library, &second, memory)
+}
+
+fn check(file: &[u8], given: &Given) -> Outcome {
+    let (lent_file, lent_plan) = (file.to_vec(), given.plan.clone());
+    let library = fppn::check(&lent_file, given.processors, &lent_plan);
+    let second = as_library::check(file, given.processors, &given.plan);
+    let mut memory = of_memory("plan", 0, &lent_plan, &given.plan);
+    memory.extend(of_memory("file", 0, &lent_file, file));
+    outcome(Call::Check, &library, &second, memory)
+}
+
+fn asked<'a>(file: &'a [u8], turn_run: &'a TurnRun) -> fppn::Turns<'a> {
+    fppn::Turns {
+        file,
+        processors: turn_run.given.processors,
+        frames: turn_run.run.frames,
+        plan: &turn_run.given.plan,
+        input: &turn_run.run.input,
+        turns: &turn_run.turns,
+    }
+}
+
+fn turns(file: &[u8], turn_run: &TurnRun) -> Outcome {
+    let (lent_file, lent_run) = (file.to_vec(), turn_run.clone());
+    let mut library_output = patterned(turn_run.run.output_length, word_pattern);
+    let mut second_output = library_output.clone();
+    let library = fppn::turns(&asked(&lent_file, &lent_run), lent(&mut library_output));
+    let second = as_library::turns(&asked(file, turn_run), lent(&mut second_output));
+    let mut memory = of_memory("output", GUARD, &library_output, &second_output);
+    memory.extend(of_memory("file", 0, &lent_file, file));
+    let (lent_plan, plan) = (&lent_run.given.plan, &turn_run.given.plan);
+    memory.extend(of_memory("plan", 0, lent_plan, plan));
+    let (lent_input, input) = (&lent_run.run.input, &turn_run.run.input);
+    memory.extend(of_memory("input", 0, lent_input, input));
+    memory.extend(of_memory("turns", 0, &lent_run.turns, &turn_run.turns));
+    outcome(Call::Turns, &library, &second, memory)
+}
+
+fn timed(file: &[u8], timed_run: &TimedRun) -> Outcome {
+    let (lent_file, lent_run) = (file.to_vec(), timed_run.clone());
+    let mut library_out = patterned(timed_run.out_length, word_pattern);
+    let mut second_out = library_out.clone();
+    let library = fppn::timed(
+        &lent_file,
+        lent_run.given.processors,
+        &lent_run.given.plan,
+        &lent_run.durations,
+        lent(&mut library_out),
+    );
+    let second = as_library::timed(
+        file,
+        timed_run.given.processors,
+        &timed_run.given.plan,
+        &timed_run.durations,
+        lent(&mut second_out),
+    );
+    let mut memory = of_memory("out", GUARD, &library_out, &second_out);
+    memory.extend(of_memory("file", 0, &lent_file, file));
+    let (lent_plan, plan) = (&lent_run.given.plan, &timed_run.given.plan);
+    memory.extend(of_memory("plan", 0, lent_plan, plan));
+    let (lent_durations, durations) = (&lent_run.durations, &timed_run.durations);
+    memory.extend(of_memory("durations", 0, lent_durations, durations));
+    outcome(Call::Timed, &library, &second, memory)
 }

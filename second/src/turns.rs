@@ -73,7 +73,7 @@ struct Processor {
 }
 
 /// A turn run in progress.
-struct Run<'a> {
+pub struct Run<'a> {
     task: &'a Task,
     programs: [Program; PROCESSES],
     machine: Machine,
@@ -86,7 +86,8 @@ struct Run<'a> {
 }
 
 impl<'a> Run<'a> {
-    fn of(task: &'a Task, plan: &[u32], frames: u32) -> Self {
+    /// A run of an accepted plan, before the first turn.
+    pub fn of(task: &'a Task, plan: &[u32], frames: u32) -> Self {
         let at_rest = |order| Processor {
             order,
             begun: 0,
@@ -109,15 +110,20 @@ impl<'a> Run<'a> {
         self.task.jobs()[job].process as usize
     }
 
-    /// Does one turn.
-    fn turn(&mut self, processor: usize, input: &[u32], output: &mut [u32]) {
+    /// Whether all frames have finished.
+    pub fn is_complete(&self) -> bool {
+        self.frames_finished == self.frames
+    }
+
+    /// Does one turn and tells whether it worked.
+    pub fn turn(&mut self, processor: usize, input: &[u32], output: &mut [u32]) -> bool {
         let moved = match self.processors[processor].under_way {
             Some(job) => Some(self.act(job, input)),
             None => self.start(processor),
         };
         let Some(moved) = moved else {
             self.waiting_turns += 1;
-            return;
+            return false;
         };
         self.working_turns += 1;
         let program = &self.programs[self.process_of(moved.job)];
@@ -129,6 +135,7 @@ impl<'a> Run<'a> {
             moved.output.store(&mut output[sample..sample + 2]);
             self.finish_job(moved.job);
         }
+        true
     }
 
     /// The place of a job's samples in this frame.
@@ -149,7 +156,7 @@ impl<'a> Run<'a> {
 
     /// Starts the next job of a processor if all that precede it have finished.
     fn start(&mut self, processor: usize) -> Option<UnderWay> {
-        if self.frames_finished == self.frames {
+        if self.is_complete() {
             return None;
         }
         let processor = &mut self.processors[processor];

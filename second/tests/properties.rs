@@ -1,13 +1,13 @@
 //! What the rules promise of all networks, tried on generated ones.
 
 use second::generate::random::Random;
-use second::generate::{case, fields, file, networks, runs};
+use second::generate::{case, durations, feasible, fields, file, networks, plans, runs, Case};
 use second::network::Network;
-use second::plan::{check, plan, Task};
+use second::plan::{check, Task};
 use second::read::read;
 use second::refusal::Reply;
 use second::timed::run_timed;
-use second::turns::{run_turns, Request};
+use second::turns::{run_turns, Request, Run};
 use second::write::write;
 use second::zero_delay::zero_delay;
 
@@ -70,14 +70,10 @@ fn the_writer_refuses_what_the_reader_refuses() {
 /// A network that can be planned, with a plan for as many processors as are given.
 fn planned(random: &mut Random, processors: u32) -> (Vec<u8>, Vec<u32>) {
     loop {
-        let file = file::of(&networks::any(random).1);
-        let jobs = Task::of(&file, processors)
-            .expect("the network is sound")
-            .jobs()
-            .len();
-        let mut words = vec![0; 2 * jobs];
-        if plan(&file, processors, &mut words).is_ok() {
-            return (file, words);
+        let file = plans::plannable(random, processors).1;
+        let task = Task::of(&file, processors).expect("the network is sound");
+        if let Some(plan) = feasible::planned(&file, &task, processors) {
+            return (file, plan);
         }
     }
 }
@@ -123,34 +119,102 @@ fn turns_and_zero_delay_give_the_same() {
     }
 }
 
+/// When a job of a timed run starts, by the rule: nothing that it waits for ends later.
+fn timed_start(task: &Task, plan: &[u32], times: &[u32], job: usize) -> u32 {
+    let start = |job: usize| plan[2 * job + 1];
+    let earlier = |&other: &usize| plan[2 * other] == plan[2 * job] && start(other) < start(job);
+    let jobs = 0..task.jobs().len();
+    let before = jobs.filter(earlier).max_by_key(|&other| start(other));
+    let waits_for = task.predecessors(job).chain(before);
+    let ends = waits_for.map(|other| times[2 * other + 1]);
+    ends.fold(task.jobs()[job].release, u32::max)
+}
+
 #[test]
 fn timed_runs_keep_to_the_plan() {
     let mut random = Random::new(5);
-    for _ in 0..100 {
+    for _ in 0..200 {
         let processors = random.within(1, 4);
-        let (file, plan) = planned(&mut random, processors);
+        let (file, mut plan) = planned(&mut random, processors);
         let task = Task::of(&file, processors).expect("the network is sound");
-        let budgets: Vec<u32> = task.jobs().iter().map(|job| job.budget).collect();
-        let durations: Vec<u32> = budgets
-            .iter()
-            .map(|&budget| random.within(0, budget))
-            .collect();
+        feasible::moved(&mut random, &task, processors, &mut plan);
+        let mut durations = durations::sound(&mut random, &task);
         let mut times = vec![0; plan.len()];
-        assert_eq!(
-            run_timed(&file, processors, &plan, &durations, &mut times),
-            Ok(())
-        );
-        for (job, times) in times.chunks_exact(2).enumerate() {
-            assert_eq!(times[1], times[0] + durations[job]);
-            assert!(times[0] >= task.jobs()[job].release && times[0] <= plan[2 * job + 1]);
-            assert!(task
-                .predecessors(job)
-                .all(|lower| durations[lower] <= times[0]));
+        let done = run_timed(&file, processors, &plan, &durations, &mut times);
+        assert_eq!(done, Ok(()));
+        for (job, duration) in durations.iter().enumerate() {
+            let start = timed_start(&task, &plan, &times, job);
+            assert_eq!(times[2 * job..2 * job + 2], [start, start + duration]);
+            assert!(start <= plan[2 * job + 1]);
         }
-        let mut longer = durations.clone();
-        let last = longer.len() - 1;
-        longer[last] = budgets[last] + 1;
-        let late = run_timed(&file, processors, &plan, &longer, &mut times);
+        let last = durations.len() - 1;
+        durations[last] = task.jobs()[last].budget + 1;
+        let late = run_timed(&file, processors, &plan, &durations, &mut times);
         assert_eq!(late, Err(Reply::Duration.at(last)));
+    }
+}
+
+/// The request of a generated case.
+fn request(case: &Case) -> Request<'_> {
+    Request {
+        file: &case.subject.file,
+        processors: case.turn_run.given.processors,
+        frames: case.turn_run.run.frames,
+        plan: &case.turn_run.given.plan,
+        input: &case.turn_run.run.input,
+        turns: &case.turn_run.turns,
+    }
+}
+
+#[test]
+fn finished_frames_are_those_of_zero_delay() {
+    let mut finished = 0;
+    for number in 0..1500 {
+        let case = case(13, number);
+        let request = request(&case);
+        let mut output = vec![7; case.turn_run.run.output_length];
+        let Ok(ran) = run_turns(&request, &mut output) else {
+            continue;
+        };
+        let frames = ran.frames_finished;
+        if frames == 0 {
+            continue;
+        }
+        let task = Task::of(request.file, request.processors).expect("the network is sound");
+        let words = task.plan_words() * frames as usize;
+        let mut wanted = vec![7; words];
+        let left = zero_delay(request.file, frames, request.input, &mut wanted);
+        assert_eq!(output[..words], wanted);
+        if frames == request.frames {
+            assert_eq!(Ok(ran.left), left);
+            finished += 1;
+        }
+        assert!(ran.working_turns <= 25 * task.jobs().len() * request.frames as usize);
+    }
+    assert!(finished > 100);
+}
+
+#[test]
+fn a_round_of_turns_works() {
+    for number in 0..600 {
+        let case = case(14, number);
+        let request = request(&case);
+        if run_turns(&request, &mut vec![0; case.turn_run.run.output_length]).is_err() {
+            continue;
+        }
+        let task = Task::of(request.file, request.processors).expect("the network is sound");
+        let plan = &request.plan[..task.plan_words()];
+        let mut output = vec![0; task.plan_words() * request.frames as usize];
+        let mut run = Run::of(&task, plan, request.frames);
+        for &turn in request.turns {
+            run.turn(turn as usize, request.input, &mut output);
+        }
+        while !run.is_complete() {
+            let mut worked = false;
+            for processor in 0..request.processors {
+                worked |= run.turn(processor as usize, request.input, &mut output);
+            }
+            assert!(worked);
+        }
     }
 }

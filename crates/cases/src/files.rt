@@ -190,7 +190,7 @@ pub fn read(label: &[u8], file: &[u8]) {
 pub fn write(label: &[u8], net: Network, out: &mut [u8]) {
     print::text(label);
     print::text(b": ");
-    let written = network::write(net, out);
+    let written = writer::write(net, out);
     let answer = written.answer;
     let reply = answer.reply;
     if reply::number(reply) == 0 {

@@ -5,9 +5,12 @@ mod graphs;
 mod lent;
 mod longest;
 mod numbers;
+mod plans;
 mod print;
 mod ran;
 mod runs;
+mod times;
+mod turn_runs;
 
 fn main() {
     numbers::run();
@@ -15,4 +18,7 @@ fn main() {
     graphs::run();
     runs::run();
     lent::run();
+    plans::run();
+    turn_runs::run();
+    times::run();
 }

@@ -1,6 +1,7 @@
 // The line of a run: reply and place, output words, what each channel holds, and the variables of each process.
 use crate::print;
 use machine::Held;
+use reply::Reply;
 
 pub fn show(label: &[u8], file: &[u8], frames: u32, input: &[u32], output: &mut [u32]) {
     print::text(label);
@@ -11,9 +12,14 @@ pub fn show(label: &[u8], file: &[u8], frames: u32, input: &[u32], output: &mut 
     print::number(reply::number(reply) as u64);
     print::text(b" at ");
     print::number(answer.place as u64);
-    words(output);
     let channels = ran.channels;
     let variables = ran.variables;
+    rest(file, reply, channels, variables, output);
+}
+
+// What stands after the numbers: the output words, and the state, or that it is zero.
+pub fn rest(file: &[u8], reply: Reply, channels: [Held; 16], variables: [u32; 96], output: &[u32]) {
+    words(output);
     if reply::number(reply) == 0 {
         state(file, channels, variables);
     } else {
@@ -25,7 +31,7 @@ pub fn show(label: &[u8], file: &[u8], frames: u32, input: &[u32], output: &mut 
 }
 
 // The output words; of a long output the last eight.
-fn words(output: &[u32]) {
+pub fn words(output: &[u32]) {
     print::text(b", output");
     let most = shown(output.len());
     let mut i = 0usize;

@@ -4,17 +4,22 @@ use mathlib.Core.Path.{_≡_, refl, ap, _∙_}
 use mathlib.Core.List.{List}
 use lib.ListN.{length}
 use Rattle.reply.specs.Reply.{replyNumber}
+use Rattle.reply.specs.declared.Answer.{Answer}
 use Rattle.network.specs.declared.Loaded.{Loaded}
 use Rattle.network.specs.declared.Written.{Written}
 use Rattle.graph.specs.Columns.{Column, column-is}
+use Rattle.graph.specs.Sequence.{noJob}
 use Rattle.graph.specs.declared.Job.{Job}
 use Rattle.graph.specs.declared.PrecedenceGraph.{PrecedenceGraph}
 use Rattle.zero_delay.specs.declared.Ran.{Ran}
-use Rattle.fppn.specs.Answers.{loadedFrom, writtenFrom, graphFrom, ranFrom}
+use Rattle.turns.specs.declared.TurnRan.{TurnRan}
+use Rattle.fppn.specs.Answers.{loadedFrom, writtenFrom, graphFrom, ranFrom, turnedFrom, answerFrom}
 use Rattle.fppn.specs.declared.FppnLoaded.{FppnLoaded}
 use Rattle.fppn.specs.declared.FppnWritten.{FppnWritten}
 use Rattle.fppn.specs.declared.FppnGraphResult.{FppnGraphResult}
 use Rattle.fppn.specs.declared.FppnRan.{FppnRan}
+use Rattle.fppn.specs.declared.FppnTurned.{FppnTurned}
+use Rattle.fppn.specs.declared.FppnAnswer.{FppnAnswer}
 
 pub loaded-is : (l : Loaded) {told : Loaded} {n : ℕ} → l ≡ told → n ≡ replyNumber (l .answer .reply)
     → _≡_ {A = FppnLoaded} (record { reply = n; place = l .answer .place; network = l .network }) (loadedFrom told)
@@ -33,10 +38,10 @@ ran-is r e f = rw f (ap ranFrom e)
 
 pub graph-is : (g : PrecedenceGraph) {told : PrecedenceGraph} {n : ℕ} {process release deadline budget : List ℕ}
     → g ≡ told → length (told .jobs) ≡ 128 → n ≡ replyNumber (g .answer .reply)
-    → Column (λ (j : Job). j .process) (g .jobs) process
-    → Column (λ (j : Job). j .release) (g .jobs) release
-    → Column (λ (j : Job). j .deadline) (g .jobs) deadline
-    → Column (λ (j : Job). j .budget) (g .jobs) budget
+    → Column noJob (λ (j : Job). j .process) (g .jobs) process
+    → Column noJob (λ (j : Job). j .release) (g .jobs) release
+    → Column noJob (λ (j : Job). j .deadline) (g .jobs) deadline
+    → Column noJob (λ (j : Job). j .budget) (g .jobs) budget
     → _≡_ {A = FppnGraphResult} (record {
       reply = n;
       place = g .answer .place;
@@ -54,8 +59,28 @@ graph-is g {process = process} {release = release} {deadline = deadline} {budget
     let full : length (g .jobs) ≡ 128 = ap (λ (x : PrecedenceGraph). length (x .jobs)) e ∙ size in
     rw (
       f,
-      column-is (λ (j : Job). j .process) refl (g .jobs) full process p,
-      column-is (λ (j : Job). j .release) refl (g .jobs) full release r,
-      column-is (λ (j : Job). j .deadline) refl (g .jobs) full deadline d,
-      column-is (λ (j : Job). j .budget) refl (g .jobs) full budget b,
+      column-is noJob (λ (j : Job). j .process) refl (g .jobs) full process p,
+      column-is noJob (λ (j : Job). j .release) refl (g .jobs) full release r,
+      column-is noJob (λ (j : Job). j .deadline) refl (g .jobs) full deadline d,
+      column-is noJob (λ (j : Job). j .budget) refl (g .jobs) full budget b,
     ) (ap graphFrom e)
+
+pub answer-is : (a : Answer) {told : Answer} {n : ℕ} → a ≡ told → n ≡ replyNumber (a .reply) → _≡_ {A = FppnAnswer} (record { reply = n; place = a .place }) (answerFrom told)
+unfolding answerFrom
+answer-is a e f = rw f (ap answerFrom e)
+
+pub turned-is : (t : TurnRan) {told : TurnRan} {n : ℕ} → t ≡ told → n ≡ replyNumber (t .answer .reply)
+    → _≡_ {A = FppnTurned}
+    (record {
+      reply = n;
+      place = t .answer .place;
+      frames = t .frames;
+      jobs = t .jobs;
+      working = t .working;
+      waiting = t .waiting;
+      variables = t .variables;
+      channels = t .channels;
+    })
+    (turnedFrom told)
+unfolding turnedFrom
+turned-is t e f = rw f (ap turnedFrom e)

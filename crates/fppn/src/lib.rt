@@ -7,8 +7,12 @@ ghost use mathlib.Core.Path.{_≡_};
 ghost use Rattle.network.specs.Read.{readFile};
 ghost use Rattle.network.specs.Write.{wrote, wroteTo};
 ghost use Rattle.graph.specs.Graph.{graphFile};
+ghost use Rattle.reply.specs.Result.{answerOf};
+ghost use Rattle.plan.specs.Plan.{planCall, planFilled, checkCall};
+ghost use Rattle.timed.specs.Timed.{timedCall, timedFilled};
 ghost use Rattle.zero_delay.specs.ZeroDelay.{zeroDelay, ranOf, filledBy};
-ghost use Rattle.fppn.specs.Answers.{loadedFrom, writtenFrom, graphFrom, ranFrom};
+ghost use Rattle.turns.specs.Turns.{turnCall, turnedOf, turnFilled};
+ghost use Rattle.fppn.specs.Answers.{loadedFrom, writtenFrom, graphFrom, ranFrom, turnedFrom, answerFrom};
 
 // The network of a file, all zero when it is refused.
 #[repr(C)]
@@ -51,6 +55,26 @@ pub struct FppnRan {
     pub channels: [Held; 16],
 }
 
+// A turn run: the frames finished, the jobs finished in the present frame, the turns that worked and that waited; the variables, and what the channels hold.
+#[repr(C)]
+pub struct FppnTurned {
+    pub reply: u32,
+    pub place: usize,
+    pub frames: usize,
+    pub jobs: usize,
+    pub working: usize,
+    pub waiting: usize,
+    pub variables: [u32; 96],
+    pub channels: [Held; 16],
+}
+
+// An answer that has no more to tell.
+#[repr(C)]
+pub struct FppnAnswer {
+    pub reply: u32,
+    pub place: usize,
+}
+
 // Reads a network file.
 #[no_mangle]
 pub extern "C" fn fppn_read(file: &[u8]) -> FppnLoaded
@@ -74,7 +98,7 @@ pub extern "C" fn fppn_write(network: Network, out: &mut [u8]) -> FppnWritten
     ensures { λ r. ⌜ r ≡ writtenFrom (wrote network (now (out .entry))) ⌝ }
     ensures { λ _. ⌜ now (out .exit) ≡ wroteTo network (now (out .entry)) ⌝ }
 {
-    let written = network::write(network, out);
+    let written = writer::write(network, out);
     let answer = written.answer;
     let reply = answer.reply;
     FppnWritten {
@@ -133,5 +157,83 @@ pub extern "C" fn fppn_zero_delay(
         place: ran.answer.place,
         variables,
         channels,
+    }
+}
+
+// Plans a file's network: processor and start of each job, from the front of the lent words.
+#[no_mangle]
+pub extern "C" fn fppn_plan(file: &[u8], processors: u32, out: &mut [u32]) -> FppnAnswer
+    ensures { λ r. ⌜ r ≡ answerFrom (answerOf (planCall (now (file .entry)) processors (now (out .entry)))) ⌝ }
+    ensures { λ _. ⌜ now (out .exit) ≡ planFilled (planCall (now (file .entry)) processors (now (out .entry))) (now (out .entry)) ⌝ }
+{
+    let planned = plan::plan(file, processors, out);
+    let reply = planned.reply;
+    FppnAnswer {
+        reply: reply::number(reply),
+        place: planned.place,
+    }
+}
+
+// Checks a plan of a file's network.
+#[no_mangle]
+pub extern "C" fn fppn_check(file: &[u8], processors: u32, plan: &[u32]) -> FppnAnswer
+    ensures { λ r. ⌜ r ≡ answerFrom (answerOf (checkCall (now (file .entry)) processors (now (plan .entry)))) ⌝ }
+{
+    let checked = plan::check(file, processors, plan);
+    let reply = checked.reply;
+    FppnAnswer {
+        reply: reply::number(reply),
+        place: checked.place,
+    }
+}
+
+// The turn run of a file's network for so many frames, by a plan and a list of turns.
+#[no_mangle]
+pub extern "C" fn fppn_turns(
+    file: &[u8],
+    processors: u32,
+    frames: u32,
+    plan: &[u32],
+    input: &[u32],
+    turns: &[u32],
+    output: &mut [u32],
+) -> FppnTurned
+    ensures { λ r. ⌜ r ≡ turnedFrom (turnedOf (turnCall (now (file .entry)) processors frames (now (plan .entry)) (now (input .entry)) (now (turns .entry)) (now (output .entry)))) ⌝ }
+    ensures { λ _. ⌜ now (output .exit) ≡ turnFilled (turnCall (now (file .entry)) processors frames (now (plan .entry)) (now (input .entry)) (now (turns .entry)) (now (output .entry))) (now (output .entry)) ⌝ }
+{
+    let turned = turns::run(file, processors, frames, plan, input, turns, output);
+    let answer = turned.answer;
+    let reply = answer.reply;
+    let variables = turned.variables;
+    let channels = turned.channels;
+    FppnTurned {
+        reply: reply::number(reply),
+        place: turned.answer.place,
+        frames: turned.frames,
+        jobs: turned.jobs,
+        working: turned.working,
+        waiting: turned.waiting,
+        variables,
+        channels,
+    }
+}
+
+// The timed run of a file's network on a plan, with a duration for each job: start and end of each job, from the front of the lent words.
+#[no_mangle]
+pub extern "C" fn fppn_timed(
+    file: &[u8],
+    processors: u32,
+    plan: &[u32],
+    durations: &[u32],
+    out: &mut [u32],
+) -> FppnAnswer
+    ensures { λ r. ⌜ r ≡ answerFrom (answerOf (timedCall (now (file .entry)) processors (now (plan .entry)) (now (durations .entry)) (now (out .entry)))) ⌝ }
+    ensures { λ _. ⌜ now (out .exit) ≡ timedFilled (timedCall (now (file .entry)) processors (now (plan .entry)) (now (durations .entry)) (now (out .entry))) (now (out .entry)) ⌝ }
+{
+    let told = timed::run(file, processors, plan, durations, out);
+    let reply = told.reply;
+    FppnAnswer {
+        reply: reply::number(reply),
+        place: told.place,
     }
 }

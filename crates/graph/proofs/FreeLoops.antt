@@ -1,105 +1,146 @@
--- The processes that pending processes hold back, and the search for the smallest free process.
-use Prim.Native.Nat.{ℕ, _+_, _≤_, _<_}
-use mathlib.Core.Path.{_≡_, refl, sym, ap, subst, _∙_}
+-- The processes before each, as words; and the search for the smallest free process.
+use Prim.Native.Nat.{ℕ, _+_, _^_, _≤_, _<_}
+use mathlib.Core.Path.{_≡_, refl, sym, ap, ap₂, subst, _∙_}
 use mathlib.Core.Bool.{Bool, true, false, cond, not, _&&_, _||_}
 use mathlib.Core.List.{List}
-use native.Mathlib.Numerals.{add-one}
+use native.Mathlib.Decide.{decLt, ℕ-discrete}
 use native.Mathlib.Omega.{arith}
-use lib.ListN.{length, getD, take}
-use lib.Seq.{getD-take, length-take-le}
-use lib.Dec.{ltb}
-use borrow.Author.Tests.{lt-ltb, le-ltb}
+use lib.ListN.{length, getD, set, replicate, length-set, length-replicate}
+use lib.Seq.{getD-set-same, getD-set-other}
+use lib.Bits.{bitAnd}
+use lib.Dec.{ltb, eqb}
+use borrow.Author.Tests.{lt-ltb, le-ltb, eq-eqb, ne-eqb}
 use Rattle.reply.specs.Tools.{any}
 use Rattle.reply.specs.Tests.{split}
-use Rattle.reply.specs.AllAny.{below-suc, any-zero, any-suc, any-same}
-use Rattle.reply.specs.First.{first-only}
-use Rattle.marks.specs.Row.{marked, noMarks, orOf}
-use Rattle.marks.specs.Laws.{marked-none, marked-or}
+use Rattle.reply.specs.AllAny.{any-same}
+use Rattle.reply.specs.First.{First, first-only}
+use Rattle.marks.specs.Row.{bit, marked, noMarks}
+use Rattle.marks.specs.Words.{bit-none}
 use Rattle.marks.specs.declared.Row.{Row}
+use Rattle.network.specs.Frame.{processAt}
 use Rattle.network.specs.Chains.{holds}
 use Rattle.network.specs.ChainLaws.{relation-holds}
+use Rattle.network.specs.ChainsSame.{relation-same}
+use Rattle.network.specs.declared.Process.{Process}
 use Rattle.graph.specs.Order.{rowRelation}
 use Rattle.graph.specs.Sequence.{isPending, isFree, nextFree}
-use Rattle.graph.specs.SequenceTold.{waitsFor, alsoHeld, HeldBack}
+use Rattle.graph.specs.SequenceTold.{AddsDigit, NextDigit, FirstOf, FirstWords, wordRelation, freeIn, GoodProcesses}
+use Rattle.graph.proofs.Digits.{shares-none}
+use Rattle.graph.proofs.RelativeMarks.{below-more}
 use Rattle.graph.proofs.TakeOne.{next-is}
 
--- ---- the processes that are held back
+-- ---- the processes before each
 
-pub held-idle : (count : ℕ) (row held : Row) → count ≡ 0 → held ≡ alsoHeld count row held
-unfolding alsoHeld
-held-idle count row held e = rw (le-ltb 0 count (omega arith))
+module _ (ahead : List Row) (p : ℕ) where
+  pub first-begins : FirstOf 0 ahead p 0
+  first-begins = record { digits = λ q. bit-none q ∙ sym (rw (le-ltb q 0 (omega arith))) }
 
-pub held-pending : (count : ℕ) (row held r : Row) → (count ≡ 0 → ⊥) → r ≡ orOf held row → r ≡ alsoHeld count row held
-unfolding alsoHeld
-held-pending count row held r d e = rw (lt-ltb 0 count (omega arith)) e
-
-module _ (pending : List ℕ) (ahead : List Row) where
-  pub held-begins : (held : Row) → held ≡ noMarks → HeldBack 0 pending ahead held
-  held-begins held e = record { marks = λ p. ap (λ (r : Row). marked r p) e ∙ marked-none p ∙ sym (any-zero (waitsFor pending ahead p)) }
-
-  pub held-goes-on : (q : ℕ) (held new : Row) → HeldBack q pending ahead held → new ≡ alsoHeld (getD pending q 0) (getD ahead q noMarks) held
-      → HeldBack (q + 1) pending ahead new
-  unfolding alsoHeld waitsFor
-  held-goes-on q held new s e = record {
-    marks = λ p. rw (add-one q) (ap (λ (r : Row). marked r p) e ∙ one p ∙ sym (any-suc q (waitsFor pending ahead p)));
+  pub first-goes-on : (q word new : ℕ) (comes : Bool) → FirstOf q ahead p word → comes ≡ marked (getD ahead q noMarks) p → AddsDigit word q comes new
+      → FirstOf (q + 1) ahead p new
+  first-goes-on q word new comes s e a = record {
+    digits = λ k.
+        a .digits k ∙ ap₂ (λ (x y : Bool). x || (eqb k q && y)) (s .digits k) e
+        ∙ below-more (λ i. marked (getD ahead i noMarks) p) q k;
   }
-    where
-      one : (p : ℕ) → marked (cond (isPending pending q) (orOf held (getD ahead q noMarks)) held) p
-          ≡ (any q (waitsFor pending ahead p) || (isPending pending q && marked (getD ahead q noMarks) p))
-      one p = split (isPending pending q)
-          (λ t. rw t (marked-or held (getD ahead q noMarks) p ∙ ap (λ (b : Bool). b || marked (getD ahead q noMarks) p) (s .marks p)))
-          (λ t. rw t (s .marks p ∙ sym (or-false (any q (waitsFor pending ahead p)))))
-        where
-          or-false : (b : Bool) → (b || false) ≡ b
-          or-false true = refl
-          or-false false = refl
 
-  pub held-ends : (n q : ℕ) (held : Row) → q ≤ n → n ≤ q → HeldBack q pending ahead held → HeldBack n pending ahead held
-  held-ends n q held h l s = subst (λ x. HeldBack x pending ahead held) (omega arith) s
+  pub first-ends : (n q word : ℕ) → q ≤ n → n ≤ q → FirstOf q ahead p word → FirstOf n ahead p word
+  first-ends n q word h l s = subst (λ x. FirstOf x ahead p word) (omega arith) s
 
--- ---- free
+-- the words below p are done
+pub record FirstSoFar (n : ℕ) (ahead : List Row) (p : ℕ) (words : List ℕ) : Type 0 where
+  pub size : length words ≡ 12
+  pub done : (i : ℕ) → i < p → FirstOf n ahead i (getD words i 0)
 
-pub free-idle : (count : ℕ) (held : Row) (p : ℕ) → count ≡ 0 → false ≡ (ltb 0 count && not (marked held p))
-free-idle count held p e = rw (le-ltb 0 count (omega arith))
+module _ (n : ℕ) (ahead : List Row) where
+  pub words-begin : (words : List ℕ) → words ≡ replicate 12 0 → FirstSoFar n ahead 0 words
+  words-begin words e = record { size = ap (λ (l : List ℕ). length l) e ∙ length-replicate {A = ℕ} 12 0; done = λ i h. absurd (omega arith) }
 
-pub free-pending : (count : ℕ) (held : Row) (p : ℕ) (has : Bool) → (count ≡ 0 → ⊥) → has ≡ marked held p → not has ≡ (ltb 0 count && not (marked held p))
-free-pending count held p has d e = rw (lt-ltb 0 count (omega arith)) (ap not e)
+  pub words-go-on : (p : ℕ) (words : List ℕ) (word : ℕ) → p < 12 → FirstSoFar n ahead p words → FirstOf n ahead p word
+      → FirstSoFar n ahead (p + 1) (set words p word)
+  words-go-on p words word h s f = record {
+    size = length-set words p word ∙ s .size;
+    done = λ i l. elim (ℕ-discrete i p) [
+      | yes z ↦
+          subst (λ x. FirstOf n ahead x (getD (set words p word) x 0)) (sym z)
+          (subst (λ w. FirstOf n ahead p w) (sym (getD-set-same words p word 0 (omega (arith, s .size)))) f)
+      | no d ↦ subst (λ w. FirstOf n ahead i w) (sym (getD-set-other words p i word 0 d)) (s .done i (omega arith))
+    ];
+  }
 
-module _ (n : ℕ) (pending : List ℕ) (ahead : List Row) (few : n ≤ length pending) where
-  free-is : (p : ℕ) → p < n → isFree (rowRelation n ahead) (take n pending) p ≡ (isPending pending p && not (any n (waitsFor pending ahead p)))
-  unfolding isFree rowRelation waitsFor
-  free-is p h =
-      rw (getD-take n pending p 0 h, length-take-le n pending few)
-      (ap (λ (b : Bool). isPending pending p && not b)
-      (any-same n (λ q. isPending (take n pending) q && holds (rowRelation n ahead) q p) (waitsFor pending ahead p)
-      (λ q l. rw (getD-take n pending q 0 l, relation-holds n (λ a b. marked (getD ahead a noMarks) b) q p l h))))
+  pub words-end : (p : ℕ) (words : List ℕ) → n ≤ p → FirstSoFar n ahead p words → FirstWords n ahead words
+  words-end p words h s = record { words = λ i l. s .done i (omega arith) }
 
--- none below p is pending and not held back
-pub record NoneFree (pending : List ℕ) (held : Row) (p : ℕ) : Type 0 where
-  pub none : (k : ℕ) → k < p → (isPending pending k && not (marked held k)) ≡ false
+-- they hold the relation of the rows
+pub words-relate : (n : ℕ) (ahead : List Row) (first : List ℕ) → FirstWords n ahead first → rowRelation n ahead ≡ wordRelation n first
+unfolding rowRelation wordRelation
+words-relate n ahead first f = relation-same n _ _ (λ a b h l. sym (f .words b l .digits a ∙ rw (lt-ltb a n h)))
 
-module _ (pending : List ℕ) (held : Row) where
-  pub free-begins : NoneFree pending held 0
-  free-begins = record { none = λ k h. absurd (omega arith) }
+-- ---- the search
 
-  pub free-goes-on : (p : ℕ) (free : Bool) → NoneFree pending held p → free ≡ (isPending pending p && not (marked held p)) → free ≡ false
-      → NoneFree pending held (p + 1)
-  free-goes-on p free s e f = record { none = rw (add-one p) (below-suc p (λ k. (isPending pending k && not (marked held k)) ≡ false) (sym e ∙ f) (s .none)) }
+-- none below p is free, and p is pending if it is a digit at all
+pub record Looking (pending : ℕ) (first : List ℕ) (p : ℕ) : Type 0 where
+  pub none : (k : ℕ) → k < p → freeIn pending first k ≡ false
+  pub has : p < 64 → bit pending p ≡ true
 
-module _ (n : ℕ) (pending : List ℕ) (ahead : List Row) (few : n ≤ length pending) (held : Row) (told : HeldBack n pending ahead held)
-    (p : ℕ) (s : NoneFree pending held p) where
-  same : (k : ℕ) → k < n → isFree (rowRelation n ahead) (take n pending) k ≡ (isPending pending k && not (marked held k))
-  same k h = free-is n pending ahead few k h ∙ ap (λ (b : Bool). isPending pending k && not b) (sym (told .marks k))
+module _ (pending : ℕ) (first : List ℕ) where
+  pub look-begins : (p : ℕ) → NextDigit pending 0 p → Looking pending first p
+  unfolding freeIn
+  look-begins p d = record { none = λ k h. rw (d .none k (omega arith) h); has = d .has }
 
-  is-next : p ≤ n → (p < n → isFree (rowRelation n ahead) (take n pending) p ≡ true) → p ≡ nextFree (rowRelation n ahead) (take n pending)
-  is-next h e =
-      let size : length (take n pending) ≡ n = length-take-le n pending few in
-      first-only (isFree (rowRelation n ahead) (take n pending)) 0 (0 + length (take n pending)) p (nextFree (rowRelation n ahead) (take n pending))
-      (record { from = omega arith; to = omega arith; before = λ k l m. same k (omega arith) ∙ s .none k m; passes = λ l. e (omega arith) })
-      (next-is (rowRelation n ahead) (take n pending))
+  pub look-goes-on : (p new : ℕ) → p < 64 → Looking pending first p → (bitAnd (getD first p 0) pending ≡ 0 → ⊥) → NextDigit pending (p + 1) new
+      → Looking pending first new
+  unfolding freeIn
+  look-goes-on p new h s d next = record {
+    none = λ k l. elim (ℕ-discrete k p) [
+      | yes z ↦ subst (λ x. freeIn pending first x ≡ false) (sym z) (rw (s .has h, ne-eqb (bitAnd (getD first p 0) pending) 0 d))
+      | no e ↦ elim (decLt k p) [ yes m ↦ s .none k m | no m ↦ rw (next .none k (omega arith) l) ]
+    ];
+    has = next .has;
+  }
 
-  pub free-found : (free : Bool) → p < n → free ≡ (isPending pending p && not (marked held p)) → free ≡ true → p ≡ nextFree (rowRelation n ahead) (take n pending)
-  free-found free h e f = is-next (omega arith) (λ l. same p l ∙ sym e ∙ f)
+  pub look-found : (n p : ℕ) → p < 64 → p < n → Looking pending first p → bitAnd (getD first p 0) pending ≡ 0 → First (freeIn pending first) 0 n p
+  unfolding freeIn
+  look-found n p h l s e = record {
+    from = omega arith;
+    to = omega arith;
+    before = λ k a b. s .none k b;
+    passes = λ m. rw (s .has h, eq-eqb (bitAnd (getD first p 0) pending) 0 e);
+  }
 
-  pub free-none : p ≤ n → n ≤ p → p ≡ nextFree (rowRelation n ahead) (take n pending)
-  free-none h l = is-next h (λ m. absurd (omega arith))
+  pub look-none : (n p : ℕ) → n ≤ p → Looking pending first p → First (freeIn pending first) 0 n n
+  look-none n p h s = record { from = omega arith; to = omega arith; before = λ k a b. s .none k (omega arith); passes = λ m. absurd (omega arith) }
+
+-- ---- the same in jobs that are pending
+
+-- a process below n whose digit a word has is pending with its whole burst, another with no job
+pub record PendingIn (n : ℕ) (processes : List Process) (word : ℕ) (pending : List ℕ) : Type 0 where
+  pub wide : length pending ≡ n
+  pub counts : (q : ℕ) → q < n → getD pending q 0 ≡ cond (bit word q) (processAt processes q .burst) 0
+  pub past : (q : ℕ) → n ≤ q → bit word q ≡ false
+
+module _ (n : ℕ) (processes : List Process) (good : GoodProcesses n processes) (first : List ℕ) (word : ℕ) (fits : word < 2 ^ 64) (pending : List ℕ)
+    (s : PendingIn n processes word pending) where
+  pending-is : (q : ℕ) → q < n → isPending pending q ≡ bit word q
+  pending-is q h = split (bit word q)
+      (λ t. rw (s .counts q h, t) (lt-ltb 0 (processAt processes q .burst) (good .good q h .burst .0)))
+      (λ t. rw (s .counts q h, t) refl)
+
+  free-same : (p : ℕ) → p < n → freeIn word first p ≡ isFree (wordRelation n first) pending p
+  unfolding freeIn isFree wordRelation
+  free-same p h =
+      rw (pending-is p h, s .wide)
+      (ap (λ (b : Bool). bit word p && b)
+      (shares-none n (getD first p 0) word fits (s .past)
+      ∙ ap not (any-same n (λ q. bit word q && bit (getD first p 0) q) (λ q. isPending pending q && holds (wordRelation n first) q p)
+      (λ q l. rw (pending-is q l, relation-holds n (λ a b. bit (getD first b 0) a) q p l h)))))
+
+  pub next-same : (p : ℕ) → First (freeIn word first) 0 n p → p ≡ nextFree (wordRelation n first) pending
+  next-same p f =
+      first-only (isFree (wordRelation n first) pending) 0 (0 + length pending) p (nextFree (wordRelation n first) pending)
+      (record {
+        from = omega arith;
+        to = omega (arith, f .to, s .wide);
+        before = λ k a b. sym (free-same k (omega (arith, f .to))) ∙ f .before k a b;
+        passes = λ l. let h : p < n = omega (arith, s .wide) in sym (free-same p h) ∙ f .passes h;
+      })
+      (next-is (wordRelation n first) pending)

@@ -1,5 +1,6 @@
-mod Ancestors
 mod BeforeJobs
+mod Descendants
+mod Digits
 mod FreeLoops
 mod Gathering
 mod Marks
@@ -9,5 +10,4 @@ mod SequenceLoops
 mod Stores
 mod TakeOne
 mod Totals
-mod Turning
 mod ColumnLoop

@@ -1,51 +1,44 @@
--- The marks of a row one after another: the highest of a word, a row without one mark, and that it then has fewer.
-use Prim.Native.Nat.{ℕ, zero, suc, _-_, _/_, _^_, _≤_, _<_}
-use mathlib.Core.Path.{_≡_, refl, ap, subst, _∙_}
+-- The marks of a row one after another: the lowest of a word, a row without one mark, and that it then has fewer.
+use Prim.Native.Nat.{ℕ, zero, suc, _+_, _-_, _^_, _≤_, _<_}
+use mathlib.Core.Path.{_≡_, refl, sym, ap, subst, _∙_}
 use mathlib.Core.Bool.{Bool, true, false, cond, not, _&&_}
-use native.Mathlib.Decide.{ℕ-discrete}
-use native.Mathlib.Nat.{div-eq-of-lt-le, one-mul}
+use native.Mathlib.Decide.{decLt, ℕ-discrete}
 use native.Mathlib.Omega.{arith}
-use lib.Count.{leadingZeros, leading-top}
+use lib.Count.{trailingZeros}
 use lib.Dec.{eqb}
 use Rattle.reply.specs.Tools.{count}
 use Rattle.reply.specs.Counts.{count-zero, count-suc}
 use Rattle.marks.specs.Row.{bit, marked, noMarks, withOf, withoutOf, countOf}
-use Rattle.marks.specs.Words.{bit-none}
+use Rattle.marks.specs.Words.{bit-none, word-same}
 use Rattle.marks.specs.Laws.{marked-low, marked-high, marked-past, marked-none, marked-with, marked-without, by-place, count-is}
 use Rattle.marks.specs.declared.Row.{Row}
 use Rattle.graph.specs.ReductionTold.{FindsMark, exceptOf}
+use Rattle.graph.proofs.Digits.{zeros-below, digit-there}
 
--- ---- the highest mark
+-- ---- the lowest mark
 
-module _ (a : ℕ) (some : 0 < a) (fits : a < 2 ^ 64) where
-  pub zeros-few : leadingZeros 64 a < 64
-  zeros-few = let (j, e, l, h) = leading-top 64 a some fits in omega arith
-
-  bit-top : bit a (63 - leadingZeros 64 a) ≡ true
-  bit-top =
-      let (j, e, l, h) = leading-top 64 a some fits in
-      let z : 63 - leadingZeros 64 a ≡ j = omega arith in
-      let one : a / 2 ^ j ≡ 1 = div-eq-of-lt-le (2 ^ j) (omega (arith, one-mul (2 ^ j))) (omega arith) in
-      rw (z, one)
+-- the digit that a count of zeros ends at
+low-digit : (a : ℕ) → 0 < a → a < 2 ^ 64 → (trailingZeros 64 a < 64) × (bit a (trailingZeros 64 a) ≡ true)
+low-digit a some fits = elim (decLt (trailingZeros 64 a) 64) [
+  | yes h ↦ (h, digit-there 64 a h)
+  | no h ↦ let none : a ≡ 0 = word-same 64 a 0 fits (omega arith) (λ i l. zeros-below 64 a i (omega arith) ∙ sym (bit-none i)) in absurd (omega arith)
+]
 
 module _ (row : Row) where
-  pub finds-high : 0 < row .high → row .high < 2 ^ 64 → FindsMark row (127 - leadingZeros 64 (row .high))
-  finds-high some fits =
-      let few : leadingZeros 64 (row .high) < 64 = zeros-few (row .high) some fits in
-      let z : 127 - leadingZeros 64 (row .high) - 64 ≡ 63 - leadingZeros 64 (row .high) = omega arith in
-      record {
-        has = λ h. marked-high row (127 - leadingZeros 64 (row .high)) (omega arith) h ∙ ap (bit (row .high)) z ∙ bit-top (row .high) some fits;
-        none = λ h. absurd (omega arith);
-      }
-
-  pub finds-low : 0 < row .low → row .low < 2 ^ 64 → FindsMark row (63 - leadingZeros 64 (row .low))
-  finds-low some fits = record {
-    has = λ h. marked-low row (63 - leadingZeros 64 (row .low)) (omega arith) ∙ bit-top (row .low) some fits;
+  pub finds-low : 0 < row .low → row .low < 2 ^ 64 → FindsMark row (trailingZeros 64 (row .low))
+  finds-low some fits = let (few, there) = low-digit (row .low) some fits in record {
+    has = λ h. marked-low row (trailingZeros 64 (row .low)) few ∙ there;
     none = λ h. absurd (omega arith);
   }
 
-  pub finds-none : row .high ≤ 0 → row .low ≤ 0 → FindsMark row 128
-  finds-none h l =
+  pub finds-high : 0 < row .high → row .high < 2 ^ 64 → FindsMark row (64 + trailingZeros 64 (row .high))
+  finds-high some fits = let (few, there) = low-digit (row .high) some fits in record {
+    has = λ h. marked-high row (64 + trailingZeros 64 (row .high)) (omega arith) h ∙ ap (bit (row .high)) (omega arith) ∙ there;
+    none = λ h. absurd (omega arith);
+  }
+
+  pub finds-none : row .low ≤ 0 → row .high ≤ 0 → FindsMark row 128
+  finds-none l h =
       let high : row .high ≡ 0 = omega arith in
       let low : row .low ≡ 0 = omega arith in
       record {
@@ -78,7 +71,7 @@ count-le : (n : ℕ) (r q : ℕ → Bool) → ((k : ℕ) → r k ≡ true → q 
 count-le zero r q f = omega (arith, count-zero r, count-zero q)
 count-le (suc n) r q f = omega (arith, count-suc n r, count-suc n q, count-le n r q f, cond-le (r n) (q n) (f n))
 
-count-less : (n : ℕ) (r q : ℕ → Bool) (i : ℕ) → i < n → r i ≡ false → q i ≡ true → ((k : ℕ) → r k ≡ true → q k ≡ true) → count n r < count n q
+pub count-less : (n : ℕ) (r q : ℕ → Bool) (i : ℕ) → i < n → r i ≡ false → q i ≡ true → ((k : ℕ) → r k ≡ true → q k ≡ true) → count n r < count n q
 count-less zero r q i h a b f = absurd (omega arith)
 count-less (suc n) r q i h a b f = elim (ℕ-discrete i n) [
   | yes e ↦

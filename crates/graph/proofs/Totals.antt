@@ -10,11 +10,11 @@ use Rattle.marks.specs.Row.{noMarks, countOf}
 use Rattle.marks.specs.Laws.{counted-most}
 use Rattle.marks.specs.declared.Row.{Row}
 use Rattle.network.specs.Lists.{fillTo}
-use Rattle.graph.specs.Graph.{reductionOf, rowsTo}
-use Rattle.graph.specs.GraphLaws.{Forward, reduction-forward, filled-count}
-use Rattle.graph.specs.ReductionTold.{heldTo, Earlier, ReducedTo, turned, marksOf}
-use Rattle.graph.specs.ReductionLaws.{held-forward, rows-earlier}
-use Rattle.graph.proofs.Turning.{turned-rows}
+use Rattle.graph.specs.Order.{rowRelation}
+use Rattle.graph.specs.Graph.{reductionOf, rowsFrom}
+use Rattle.graph.specs.GraphLaws.{reduction-forward, filled-count}
+use Rattle.graph.specs.ReductionTold.{Later, ReducedFrom, marksOf}
+use Rattle.graph.specs.ReductionLaws.{held-forward}
 
 -- ---- the marks of the rows below i
 
@@ -39,16 +39,9 @@ module _ (rows : List Row) where
 
 -- ---- the whole
 
-module _ (n : ℕ) (before : List Row) (size : n ≤ 128) (earlier : Earlier n before) where
-  forward : Forward n (reductionOf n (heldTo n before))
-  forward = reduction-forward n (heldTo n before) (held-forward n before earlier)
-
-  pub into-earlier : (into : List Row) → into ≡ fillTo 128 noMarks (rowsTo n (reductionOf n (heldTo n before))) → Earlier n into
-  into-earlier into e = rw e (rows-earlier n (reductionOf n (heldTo n before)) size forward)
-
-  pub reduced : (into rows : List Row) (edges : ℕ) → into ≡ fillTo 128 noMarks (rowsTo n (reductionOf n (heldTo n before))) → rows ≡ turned n into → edges ≡ marksOf n rows
-      → ReducedTo n before rows edges
-  unfolding marksOf
-  reduced into rows edges i r e =
-      let turn = r ∙ ap (turned n) i ∙ turned-rows n (reductionOf n (heldTo n before)) size forward in
-      record { rows-are = turn; edges-are = e ∙ rw turn (filled-count n (reductionOf n (heldTo n before)) size (forward .within)) }
+pub reduced : (n : ℕ) (after : List Row) → n ≤ 128 → Later n after → (rows : List Row) (edges : ℕ)
+    → rows ≡ fillTo 128 noMarks (rowsFrom n (reductionOf n (rowRelation n after))) → edges ≡ marksOf n rows → ReducedFrom n after rows edges
+unfolding marksOf
+reduced n after size later rows edges r e =
+    let forward = reduction-forward n (rowRelation n after) (held-forward n after later) in
+    record { rows-are = r; edges-are = e ∙ rw r (filled-count n (reductionOf n (rowRelation n after)) size (forward .within)) }

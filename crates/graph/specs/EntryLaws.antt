@@ -23,8 +23,11 @@ use Rattle.graph.specs.Order.{comesBefore, rowRelation}
 use Rattle.graph.specs.AheadLaws.{rows-before}
 use Rattle.graph.specs.Sequence.{noJob, sequenceTo}
 use Rattle.graph.specs.Work.{workOf, jobOf, jobCountOf, precedesBy}
-use Rattle.graph.specs.Graph.{rowsTo, framedOf}
+use Rattle.graph.specs.Graph.{rowsFrom, rowsTo, framedOf, graphOf}
 use Rattle.graph.specs.OrderLaws.{orderOf}
+use Rattle.graph.specs.GraphLaws.{work-forward}
+use Rattle.graph.specs.ReductionTold.{Later, ReducedFrom}
+use Rattle.graph.specs.ReductionLaws.{rows-later, work-reduced}
 use Rattle.graph.specs.Promise.{never-full, jobs-are}
 use Rattle.graph.specs.WorkLaws.{work-jobs, work-before, work-frame, work-net}
 use Rattle.graph.specs.SequenceTold.{FitsTable, HoldsJobs}
@@ -32,6 +35,7 @@ use Rattle.graph.specs.PrecedenceTold.{JobsTold}
 use Rattle.graph.specs.FrameTold.{Accepted}
 use Rattle.graph.specs.declared.Job.{Job}
 use Rattle.graph.specs.declared.Framed.{Framed}
+use Rattle.graph.specs.declared.PrecedenceGraph.{PrecedenceGraph}
 use Rattle.graph.specs.declared.sequence.Jobs.{Jobs}
 
 module _ {network : Network} (a : Accepted network) where
@@ -129,3 +133,27 @@ module _ {network : Network} (a : Accepted network) where
             (record { answer = record { reply = Done; place = 0 }; network = network; frame = frame; «job_count» = table .count; jobs = table .jobs; before = before })
             (framedOf (done (workOf (within network))))
         whole e = rw (net-is, frame-is, work-frame (a .net), work-net (a .net), before-is e, table-jobs, table-count, a .is) refl
+
+        -- the successor rows are those of the work
+        module _ {after : List Row}
+            (e : after ≡ fillTo 128 noMarks (rowsFrom (table .count) (relation (table .count) (precedesBy (rowRelation (network .«process_count») ahead) (take (table .count) (table .jobs))))))
+          where
+            after-is : after ≡ fillTo 128 noMarks (rowsFrom (jobCountOf (workOf (a .net))) (workOf (a .net) .before))
+            after-is =
+                e ∙ rw (taken, order-is, table-count) (ap (λ (r : Relation). fillTo 128 noMarks (rowsFrom (jobCountOf (workOf (a .net))) r)) (sym (work-before (a .net))))
+
+            pub after-later : (table .count ≤ 128) × Later (table .count) after
+            after-later =
+                let most = jobs-are (a .net) (a .valid) .most in
+                rw (table-count, after-is) (most, rows-later _ _ most (work-forward (a .net)))
+
+            -- with the edges that stay, all of it is the graph
+            pub whole-graph : {rows : List Row} {edges : ℕ} → ReducedFrom (table .count) after rows edges
+                → _≡_ {A = PrecedenceGraph}
+                (record { answer = record { reply = Done; place = 0 }; «job_count» = table .count; frame = frame; edges = edges; jobs = table .jobs; rows = rows })
+                (graphOf (done (workOf (within network))))
+            whole-graph {rows} {edges} r =
+                let reduced : ReducedFrom (jobCountOf (workOf (a .net))) (fillTo 128 noMarks (rowsFrom (jobCountOf (workOf (a .net))) (workOf (a .net) .before))) rows edges =
+                subst (λ (l : List Row). ReducedFrom (jobCountOf (workOf (a .net))) l rows edges) after-is (subst (λ (k : ℕ). ReducedFrom k after rows edges) table-count r) in
+                let (rows-are, edges-are) = work-reduced (a .net) rows edges (jobs-are (a .net) (a .valid) .most) reduced in
+                rw (net-is, frame-is ∙ sym (work-frame (a .net)), table-jobs, table-count, rows-are, edges-are) refl

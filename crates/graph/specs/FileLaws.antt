@@ -1,16 +1,13 @@
 -- The calls on a file, accepted or refused, by what the reader says of it.
-use Prim.Native.Nat.{ℕ, _≤_}
+use Prim.Native.Nat.{ℕ}
 use mathlib.Core.Path.{_≡_, refl, sym, ap, _∙_}
 use mathlib.Core.List.{List}
-use native.Mathlib.Omega.{arith}
 use lib.ListN.{length, replicate, length-replicate}
-use Rattle.reply.specs.Tools.{sum}
 use Rattle.reply.specs.Reply.{replyNumber}
 use Rattle.reply.specs.Result.{Result, done, refused, andThen}
 use Rattle.reply.specs.ResultLaws.{Honest, honest-done, honest-then, zero-means, other-means}
 use Rattle.marks.specs.Row.{noMarks}
-use Rattle.marks.specs.declared.Row.{Row}
-use Rattle.network.specs.Lists.{table, fillTo}
+use Rattle.network.specs.Lists.{fillTo}
 use Rattle.network.specs.ListLaws.{length-fill}
 use Rattle.network.specs.Net.{Net, within}
 use Rattle.network.specs.Read.{load, readFile}
@@ -20,10 +17,7 @@ use Rattle.network.specs.declared.Loaded.{Loaded}
 use Rattle.roundtrip.specs.Promise.{read-valid, within-fill}
 use Rattle.graph.specs.Sequence.{noJob}
 use Rattle.graph.specs.Work.{workOf, loadWork}
-use Rattle.graph.specs.Graph.{rowsFrom, edgesOf, framedOf, frameFile, graphOf, graphFile}
-use Rattle.graph.specs.GraphLaws.{work-forward}
-use Rattle.graph.specs.ReductionTold.{Earlier, ReducedTo}
-use Rattle.graph.specs.ReductionLaws.{rows-earlier, work-reduced}
+use Rattle.graph.specs.Graph.{framedOf, frameFile, graphOf, graphFile}
 use Rattle.graph.specs.Promise.{jobs-are}
 use Rattle.graph.specs.FrameTold.{Accepted}
 use Rattle.graph.specs.declared.Framed.{Framed}
@@ -59,54 +53,23 @@ module _ (file : List ℕ) (loaded : Loaded) (read : loaded ≡ readFile file) w
 
 -- ---- the graph of a file
 
-abbrev framedBy : Result Net → Framed
-framedBy r = framedOf (andThen r λ net. done (workOf net))
-
 abbrev graphBy : Result Net → PrecedenceGraph
 graphBy r = graphOf (andThen r λ net. done (workOf net))
 
--- the rows of a frame go forward
-forward-by : (r : Result Net) → ((net : Net) → r ≡ done net → Valid net) → (framedBy r .«job_count» ≤ 128) × Earlier (framedBy r .«job_count») (framedBy r .before)
-forward-by (done net) v =
-    let most = jobs-are net (v net refl) .most in
-    (most, rows-earlier _ _ most (work-forward net))
-forward-by (refused reply place) v = (omega arith, record { earlier = λ i j h t. absurd (omega arith) })
+module _ (file : List ℕ) (loaded : Loaded) (read : loaded ≡ readFile file) where
+  pub graph-done : replyNumber (loaded .answer .reply) ≡ 0 → graphOf (done (workOf (within (loaded .network)))) ≡ graphFile file
+  unfolding readFile graphFile loadWork
+  graph-done zero =
+      zero-means (load file) (honest-load file) (said file loaded read zero) λ net l.
+      rw (read, l) (rw (within-fill net (read-valid file net l)) refl)
 
-pub frame-forward : (file : List ℕ) → (frameFile file .«job_count» ≤ 128) × Earlier (frameFile file .«job_count») (frameFile file .before)
-unfolding frameFile loadWork
-frame-forward file = forward-by (load file) (read-valid file)
-
--- with its reduction a frame is a graph
-reduced-by : (r : Result Net) → ((net : Net) → r ≡ done net → Valid net) → (rows : List Row) (edges : ℕ)
-    → ReducedTo (framedBy r .«job_count») (framedBy r .before) rows edges
-    → _≡_ {A = PrecedenceGraph}
-    (record {
-      answer = framedBy r .answer;
-      «job_count» = framedBy r .«job_count»;
-      frame = framedBy r .frame;
-      edges = edges;
-      jobs = framedBy r .jobs;
-      rows = rows;
-    })
-    (graphBy r)
-unfolding rowsFrom edgesOf table fillTo sum
-reduced-by (done net) v rows edges t = let (a, b) = work-reduced net rows edges (jobs-are net (v net refl) .most) t in rw (a, b) refl
-reduced-by (refused reply place) v rows edges t = rw (t .rows-are, t .edges-are) refl
-
-pub graph-is : (file : List ℕ) (rows : List Row) (edges : ℕ)
-    → ReducedTo (frameFile file .«job_count») (frameFile file .before) rows edges
-    → _≡_ {A = PrecedenceGraph}
-    (record {
-      answer = frameFile file .answer;
-      «job_count» = frameFile file .«job_count»;
-      frame = frameFile file .frame;
-      edges = edges;
-      jobs = frameFile file .jobs;
-      rows = rows;
-    })
-    (graphFile file)
-unfolding frameFile graphFile loadWork
-graph-is file rows edges t = reduced-by (load file) (read-valid file) rows edges t
+  -- another reply: all is zero but the answer
+  pub graph-refused : (replyNumber (loaded .answer .reply) ≡ 0 → ⊥)
+      → _≡_ {A = PrecedenceGraph}
+      (record { answer = loaded .answer; «job_count» = 0; frame = 0; edges = 0; jobs = replicate 128 noJob; rows = replicate 128 noMarks })
+      (graphFile file)
+  unfolding readFile graphFile loadWork
+  graph-refused other = other-means (load file) (λ z. other (rw read z)) λ reply place l. rw (read, l) refl
 
 -- no refusal of a file says "done"
 pub honest-work : (file : List ℕ) → Honest (loadWork file)

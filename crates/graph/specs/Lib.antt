@@ -21,4 +21,5 @@ pub mod GraphLaws
 pub mod FrameTold
 pub mod EntryLaws
 pub mod FileLaws
+pub mod FrameOf
 pub mod Columns

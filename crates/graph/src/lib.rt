@@ -12,7 +12,7 @@ ghost use mathlib.Core.Path.{_≡_};
 ghost use Rattle.reply.specs.Result.{done};
 ghost use Rattle.network.specs.Net.{within};
 ghost use Rattle.graph.specs.Work.{workOf};
-ghost use Rattle.graph.specs.Graph.{framedOf, frameFile, graphFile};
+ghost use Rattle.graph.specs.Graph.{framedOf, frameFile, graphOf, graphFile};
 ghost use Rattle.graph.specs.FrameTold.{Accepted};
 
 // One job: its process, release, absolute deadline and budget, in ticks from the frame's start.
@@ -92,22 +92,53 @@ pub fn frame(file: &[u8]) -> Framed
     }
 }
 
-// The precedence graph of a file: its jobs, and the edges that stay.
-pub fn graph(file: &[u8]) -> PrecedenceGraph
-    ensures { λ r. ⌜ r ≡ graphFile (now (file .entry)) ⌝ }
+// The graph of a network that was read.
+fn graph_work(network: Network) -> PrecedenceGraph
+    requires { ⌜ Accepted network ⌝ }
+    ensures { λ r. ⌜ r ≡ graphOf (done (workOf (within network))) ⌝ }
 {
-    let framed = frame(file);
-    let answer = framed.answer;
-    let jobs = framed.jobs;
-    let before = framed.before;
-    let reduced = reduction::reduce(before, framed.job_count as usize);
+    let ahead = network::ahead_of(network);
+    let length = network::frame_of(network);
+    let n = network.process_count as usize;
+    let processes = network.processes;
+    let table = sequence::sequence(processes, n, ahead, length);
+    let jobs = table.jobs;
+    let count = table.count;
+    let after = precedence::after_rows(jobs, count, ahead, n);
+    let reduced = reduction::reduce(after, count);
     let rows = reduced.rows;
     PrecedenceGraph {
-        answer,
-        job_count: framed.job_count,
-        frame: framed.frame,
+        answer: Answer {
+            reply: Reply::Done,
+            place: 0,
+        },
+        job_count: count as u32,
+        frame: length,
         edges: reduced.edges,
         jobs,
         rows,
     }
+}
+
+// The precedence graph of a file: its jobs, and the edges that stay.
+pub fn graph(file: &[u8]) -> PrecedenceGraph
+    ensures { λ r. ⌜ r ≡ graphFile (now (file .entry)) ⌝ }
+{
+    let loaded = network::read(file);
+    let answer = loaded.answer;
+    let network = loaded.network;
+    let reply = answer.reply;
+    if reply::number(reply) != 0 {
+        let jobs = sequence::no_jobs();
+        let rows = reduction::no_rows();
+        return PrecedenceGraph {
+            answer,
+            job_count: 0,
+            frame: 0,
+            edges: 0,
+            jobs,
+            rows,
+        };
+    }
+    graph_work(network)
 }

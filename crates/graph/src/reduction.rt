@@ -5,8 +5,9 @@ ghost use Prim.Native.Nat.{_≤_};
 ghost use lib.ListN.{replicate};
 ghost use Rattle.marks.specs.Row.{noMarks};
 ghost use Rattle.network.specs.Lists.{fillTo};
-ghost use Rattle.graph.specs.Graph.{reductionOf, rowsTo};
-ghost use Rattle.graph.specs.ReductionTold.{heldTo, Earlier, ReducedTo, FindsMark, exceptOf, turned, marksOf};
+ghost use Rattle.graph.specs.Order.{rowRelation};
+ghost use Rattle.graph.specs.Graph.{reductionOf, rowsFrom};
+ghost use Rattle.graph.specs.ReductionTold.{Later, ReducedFrom, FindsMark, exceptOf, marksOf};
 
 // Row i marks each job that an edge leads to from job i.
 pub struct Reduced {
@@ -21,15 +22,15 @@ pub fn no_rows() -> [Row; 128]
     [none; 128]
 }
 
-// A mark of the row, the highest; 128 if it has none.
-fn highest(row: Row) -> usize
+// A mark of the row, the lowest; 128 if it has none.
+fn lowest(row: Row) -> usize
     ensures { λ r. ⌜ FindsMark row r ⌝ }
 {
-    if row.high > 0 {
-        return 127 - u64::leading_zeros(row.high) as usize;
-    }
     if row.low > 0 {
-        return 63 - u64::leading_zeros(row.low) as usize;
+        return u64::trailing_zeros(row.low) as usize;
+    }
+    if row.high > 0 {
+        return 64 + u64::trailing_zeros(row.high) as usize;
     }
     128
 }
@@ -43,56 +44,35 @@ fn except(row: Row, i: usize) -> Row
     row.without(one)
 }
 
-// Row j marks each job whose edge to job j stays: a predecessor of j that is no ancestor of another. The highest predecessor that is left goes next;
-// its ancestors need no look of their own.
-fn edges_to(before: [Row; 128], count: usize) -> [Row; 128]
-    requires { ⌜ (count ≤ 128) × Earlier count before ⌝ }
-    ensures { λ r. ⌜ r ≡ fillTo 128 noMarks (rowsTo count (reductionOf count (heldTo count before))) ⌝ }
+// Row i marks each job whose edge from job i stays: a successor of i that no other successor reaches. The nearest successor that is left goes next;
+// what it reaches needs no look of its own.
+fn edges_from(after: [Row; 128], count: usize) -> [Row; 128]
+    requires { ⌜ (count ≤ 128) × Later count after ⌝ }
+    ensures { λ r. ⌜ r ≡ fillTo 128 noMarks (rowsFrom count (reductionOf count (rowRelation count after))) ⌝ }
 {
-    let mut ancestors = no_rows();
+    let mut reached = no_rows();
     let mut edges = no_rows();
-    let mut j = 0usize;
-    while j < count {
-        let row = before[j];
+    let mut next = count;
+    while next > 0 {
+        let i = next - 1;
+        let row = after[i];
         let mut far = Row::empty();
         let mut left = row;
-        let mut i = highest(left);
-        while i < 128 {
-            let via = ancestors[i];
+        let mut j = lowest(left);
+        while j < 128 {
+            let via = reached[j];
             far = far.or(via);
             let others = left.without(via);
-            left = except(others, i);
-            i = highest(left);
+            left = except(others, j);
+            j = lowest(left);
         }
-        let reached = row.or(far);
+        let all = row.or(far);
         let kept = row.without(far);
-        ancestors[j] = reached;
-        edges[j] = kept;
-        j += 1;
+        reached[i] = all;
+        edges[i] = kept;
+        next = i;
     }
     edges
-}
-
-// The rows turned the other way: row i marks each j whose row marks i.
-fn turn(rows: [Row; 128], n: usize) -> [Row; 128]
-    requires { ⌜ (n ≤ 128) × Earlier n rows ⌝ }
-    ensures { λ r. ⌜ r ≡ turned n rows ⌝ }
-{
-    let mut out = no_rows();
-    let mut j = 0usize;
-    while j < n {
-        let mut left = rows[j];
-        let mut i = highest(left);
-        while i < 128 {
-            let row = out[i];
-            let more = row.with(j);
-            out[i] = more;
-            left = except(left, i);
-            i = highest(left);
-        }
-        j += 1;
-    }
-    out
 }
 
 // How many marks the rows below n have.
@@ -111,13 +91,12 @@ fn total(rows: [Row; 128], n: usize) -> u32
     sum
 }
 
-// The edges that stay of a relation of the first `count` jobs. Row j of `before` marks every job that it holds from to job j.
-pub fn reduce(before: [Row; 128], count: usize) -> Reduced
-    requires { ⌜ (count ≤ 128) × Earlier count before ⌝ }
-    ensures { λ r. ⌜ ReducedTo count before (r .rows) (r .edges) ⌝ }
+// The edges that stay of a relation of the first `count` jobs. Row i of `after` marks every job that it holds from job i to.
+pub fn reduce(after: [Row; 128], count: usize) -> Reduced
+    requires { ⌜ (count ≤ 128) × Later count after ⌝ }
+    ensures { λ r. ⌜ ReducedFrom count after (r .rows) (r .edges) ⌝ }
 {
-    let into = edges_to(before, count);
-    let rows = turn(into, count);
+    let rows = edges_from(after, count);
     let edges = total(rows, count);
     Reduced { rows, edges }
 }

@@ -1,5 +1,5 @@
 // What both runs are built from: the actions of a process, and what they do to its variables and its channels.
-mod actions;
+pub mod actions;
 mod channels;
 pub mod report;
 pub mod samples;

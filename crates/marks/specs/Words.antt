@@ -43,10 +43,10 @@ module _ (a b k : ℕ) where
 
 -- ---- a word is its digits
 
-bit-zero : (w : ℕ) → bit w 0 ≡ eqb (w % 2) 1
+pub bit-zero : (w : ℕ) → bit w 0 ≡ eqb (w % 2) 1
 bit-zero w = ap (λ (x : ℕ). eqb (x % 2) 1) (div-one w)
 
-bit-suc : (w i : ℕ) → bit w (suc i) ≡ bit (w / 2) i
+pub bit-suc : (w i : ℕ) → bit w (suc i) ≡ bit (w / 2) i
 bit-suc w i = sym (rw (shr-shr w 1 i, one-add i))
 
 double : (k : ℕ) → 2 ^ suc k ≡ 2 * 2 ^ k

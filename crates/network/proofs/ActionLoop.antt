@@ -1,14 +1,12 @@
 -- The loop that reads a program's actions into lent memory: what is read so far, one more, a refusal, the end.
 use Prim.Native.Nat.{ℕ, _+_, _*_, _≤_, _<_}
 use mathlib.Core.Path.{_≡_, refl, sym, ap, _∙_}
-use mathlib.Core.Bool.{Bool, true, false, cond}
+use mathlib.Core.Bool.{Bool, true, false}
 use mathlib.Core.List.{List, [], _∷_, _++_}
 use native.Mathlib.Omega.{arith}
 use native.Mathlib.Numerals.{add-one}
-use borrow.Author.Tests.{ltb-true}
-use lib.Dec.{ltb}
-use lib.ListN.{length, getD, take, length-append}
-use lib.Seq.{sets, length-take-le, getD-take}
+use lib.ListN.{length, length-append}
+use lib.Seq.{sets}
 use Rattle.reply.specs.Result.{Result, done, refused, andThen, require}
 use Rattle.reply.specs.ResultLaws.{refused-not, done-same}
 use Rattle.reply.specs.declared.Reply.{Reply}
@@ -19,10 +17,10 @@ use Rattle.number.specs.PutLaws.{sets-append}
 use Rattle.number.specs.Number.{numberAt}
 use Rattle.network.specs.Lists.{eachOf}
 use Rattle.network.specs.ListLaws.{each-more}
-use Rattle.network.specs.Net.{noChannel, fourFields}
+use Rattle.network.specs.Net.{fourFields}
 use Rattle.network.specs.Read.{goodAction, oneAction}
 use Rattle.network.specs.ProgramLaws.{length-actions}
-use Rattle.network.specs.ProgramsTold.{fourPart, fourNumbers, fourOf, Named, ActionsTold}
+use Rattle.network.specs.ProgramsTold.{fourPart, fourNumbers, fourOf, ActionsTold}
 use Rattle.network.specs.declared.Channel.{Channel}
 use Rattle.network.specs.declared.Four.{Four}
 use Rattle.network.specs.declared.programs.FourRead.the-variants.{Got as GotFour, Refused as NoFour}
@@ -40,22 +38,6 @@ four-got (refused reply place) e = let z : _≡_ {A = ℕ} 0 1 = cc in absurd (o
 pub four-not : {reply : Reply} {place : ℕ} (r : Result (Part Four)) → NoFour reply place ≡ fourOf r → r ≡ refused reply place
 four-not (done p) e = let z : _≡_ {A = ℕ} 0 1 = cc in absurd (omega arith)
 four-not (refused reply place) e = cc
-
--- the channel at a number, where it is below the count
-pub named-at : (channels : List Channel) (count number place : ℕ) (known : Bool) (channel : Channel) → count ≤ length channels
-    → known ≡ ltb number count → place ≡ cond known number 0 → channel ≡ getD channels place noChannel → Named (take count channels) number known channel
-named-at channels count number place known channel l ek ep ec =
-    let size : length (take count channels) ≡ count = length-take-le count channels l in
-    record {
-      there = rw size ek;
-      which = λ t.
-          let h : number < count = ltb-true number count (sym ek ∙ t) in
-          rw (ec, ep, t, getD-take count channels number noChannel h);
-    }
-
-pub place-fits : (room count number place : ℕ) (known : Bool) → 0 < room → count ≤ room → known ≡ ltb number count → place ≡ cond known number 0 → place < room
-place-fits room count number place true z l ek ep = let h : number < count = ltb-true number count (sym ek) in omega arith
-place-fits room count number place false z l ek ep = omega arith
 
 -- ---- an action is its four numbers, judged
 

@@ -7,15 +7,12 @@ use native.Mathlib.Omega.{arith}
 use lib.ListN.{getD}
 use borrow.Author.Tests.{eq-eqb, ne-eqb}
 use mathlib.Core.Logic.{_≢_}
-use Rattle.reply.specs.Tests.{split}
 use Rattle.marks.specs.Row.{marked, noMarks}
 use Rattle.marks.specs.declared.Row.{Row}
-use Rattle.network.specs.Pairs.{apart, goodEnds}
+use Rattle.network.specs.Pairs.{apart}
 use Rattle.network.specs.PairLaws.{apart-true}
 use Rattle.network.specs.Read.{mostCapacity}
-use Rattle.network.specs.Told.{pairRows, endsBy}
-use Rattle.network.specs.declared.Pair.{Pair}
-use Rattle.network.proofs.PairRows.{row-has}
+use Rattle.network.specs.Told.{endsBy}
 
 pub ends-place : (n w r : ℕ) (s : Bool) → s ≡ apart n w r → s ≡ true → n ≤ 12 → (w < 12) × (r < 12)
 ends-place n w r s told e small = omega (arith, apart-true n w r (sym told ∙ e))
@@ -33,14 +30,6 @@ module _ (n : ℕ) (rows : List Row) (w r : ℕ) (s : Bool) (told : s ≡ apart 
   pub ends-same : s ≡ false → false ≡ endsBy n rows w r
   unfolding endsBy
   ends-same e = rw (sym told ∙ e)
-
-pub ends-rows : (n : ℕ) (pairs : List Pair) (w r : ℕ) → n ≤ 12 → endsBy n (pairRows pairs) w r ≡ goodEnds n pairs w r
-unfolding endsBy goodEnds
-ends-rows n pairs w r small = split (apart n w r)
-    (λ e.
-    let (h, l, d) = apart-true n w r e in
-    rw (e, row-has pairs w r (omega arith) (omega arith), row-has pairs r w (omega arith) (omega arith)))
-    (λ e. rw e)
 
 pub most-board : (kind : ℕ) → kind ≡ 1 → 1 ≡ mostCapacity kind
 most-board kind e = rw (eq-eqb kind 1 e)

@@ -10,7 +10,6 @@ mod FrameLoops
 mod RowSteps
 mod Actions
 mod ActionLoop
-mod Laying
 mod PairMarks
 mod ProgramLoop
 mod WholeFile

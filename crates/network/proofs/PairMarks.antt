@@ -3,13 +3,13 @@ use Prim.Native.Nat.{ℕ, _+_, _≤_, _<_, min}
 use mathlib.Core.Path.{_≡_, refl, sym, ap, subst, _∙_}
 use mathlib.Core.Bool.{Bool, true, false, _&&_, _||_}
 use mathlib.Core.List.{List}
-use native.Mathlib.Decide.{ℕ-discrete}
+use native.Mathlib.Decide.{decLt, ℕ-discrete}
 use native.Mathlib.Numerals.{add-one}
 use native.Mathlib.Omega.{arith}
 use lib.ListN.{length, getD, set, take, replicate, getD-replicate}
 use lib.Seq.{getD-set-same, getD-set-other, take-suc}
 use lib.Dec.{eqb}
-use borrow.Author.Tests.{eq-eqb, ne-eqb, eqb-true}
+use borrow.Author.Tests.{lt-ltb, le-ltb, eq-eqb, ne-eqb, eqb-true}
 use Rattle.reply.specs.Tests.{same-test}
 use Rattle.marks.specs.Row.{marked, noMarks, withOf}
 use Rattle.marks.specs.Laws.{marked-none, marked-with}
@@ -20,16 +20,29 @@ use Rattle.network.specs.RowChains.{Leads}
 use Rattle.network.specs.Pairs.{noPair, samePair, isPair, aheads}
 use Rattle.network.specs.PairLaws.{pair-none, pair-more}
 use Rattle.network.specs.Net.{within}
-use Rattle.network.specs.AheadTold.{PairAdded, MarksPairs, countOf, AheadTold}
+use Rattle.network.specs.AheadTold.{withPair, PairAdded, MarksPairs, countOf, AheadTold}
 use Rattle.network.specs.declared.Pair.{Pair}
 use Rattle.network.specs.declared.Network.{Network}
-use Rattle.network.proofs.Laying.{take-lesser}
+use Rattle.network.specs.ListLaws.{take-lesser}
 
 or-false : (b : Bool) → (b || false) ≡ b
 or-false true = refl
 or-false false = refl
 
 -- ---- one pair
+
+module _ (pair : Pair) (row : Row) where
+  pub pair-marked : (more : Row) → pair .higher < 12 → pair .lower < 12 → more ≡ withOf row (pair .lower) → more ≡ withPair pair row
+  unfolding withPair
+  pair-marked more h l e = rw (lt-ltb (pair .higher) 12 h, lt-ltb (pair .lower) 12 l) e
+
+  pub pair-left-lower : pair .higher < 12 → 12 ≤ pair .lower → row ≡ withPair pair row
+  unfolding withPair
+  pair-left-lower h l = rw (lt-ltb (pair .higher) 12 h, le-ltb (pair .lower) 12 l)
+
+  pub pair-left-higher : 12 ≤ pair .higher → row ≡ withPair pair row
+  unfolding withPair
+  pair-left-higher h = rw (le-ltb (pair .higher) 12 h)
 
 module _ (pair : Pair) (old : List Row) where
   -- it is marked
@@ -71,6 +84,30 @@ module _ (pair : Pair) (old : List Row) where
       and-false : (b : Bool) → (b && false) ≡ false
       and-false true = refl
       and-false false = refl
+
+  -- where its row is no other than it was, all are
+  kept : (at : ℕ) (more : Row) → length old ≡ 12 → at < 12 → more ≡ getD old at noMarks → PairAdded pair old old → PairAdded pair old (set old at more)
+  kept at more size h e p = record {
+    marks = λ a b ha hb. ap (λ (r : Row). marked r b) (elim (ℕ-discrete a at) [
+      | yes z ↦ subst (λ x. getD (set old at more) x noMarks ≡ getD old x noMarks) (sym z) (getD-set-same old at more noMarks (omega (arith, size)) ∙ e)
+      | no d ↦ getD-set-other old at a more noMarks d
+    ]) ∙ p .marks a b ha hb;
+  }
+
+  -- it is marked or left out
+  pub marked-or-not : (at : ℕ) (more : Row) → length old ≡ 12 → at ≡ min (pair .higher) 11 → more ≡ withPair pair (getD old at noMarks) → PairAdded pair old (set old at more)
+  unfolding withPair
+  marked-or-not at more size e w = elim (decLt (pair .higher) 12) [
+    | yes h ↦ elim (decLt (pair .lower) 12) [
+      | yes l ↦
+          let z : at ≡ pair .higher = omega arith in
+          subst (λ x. PairAdded pair old (set old x more)) (sym z)
+          (added more size h l (w ∙ rw (lt-ltb (pair .higher) 12 h, lt-ltb (pair .lower) 12 l, z)))
+      | no l ↦
+          kept at more size (omega arith) (w ∙ rw (lt-ltb (pair .higher) 12 h, le-ltb (pair .lower) 12 (omega arith))) (left-out-lower (omega arith))
+    ]
+    | no h ↦ kept at more size (omega arith) (w ∙ rw (le-ltb (pair .higher) 12 (omega arith))) (left-out-higher (omega arith))
+  ]
 
 -- ---- the first i pairs
 

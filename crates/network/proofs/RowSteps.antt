@@ -1,6 +1,6 @@
 -- The loops over rows of marks: the rows joined so far, and the search for a chain that leads back.
 use Prim.Native.Nat.{ℕ, _+_, _≤_, _<_}
-use mathlib.Core.Path.{_≡_, refl, sym, subst, _∙_}
+use mathlib.Core.Path.{_≡_, refl, sym, ap, subst, _∙_}
 use mathlib.Core.Bool.{Bool, true, false}
 use mathlib.Core.List.{List}
 use native.Mathlib.Decide.{ℕ-discrete}
@@ -17,25 +17,27 @@ use Rattle.network.specs.RowChains.{joined, Joined, Leads, leads-more}
 
 -- ---- one step
 
--- the rows below a are joined with row k as it was
+-- the rows below a are joined with row k as it was, and the others are as they were
 pub record RowsSoFar (k : ℕ) (old : List Row) (a : ℕ) (new : List Row) : Type 0 where
   pub size : length new ≡ length old
   pub rows : (i : ℕ) → i < a → getD new i noMarks ≡ joined k (getD old k noMarks) (getD old i noMarks)
+  pub rest : (i : ℕ) → a ≤ i → getD new i noMarks ≡ getD old i noMarks
 
 module _ (k : ℕ) (old : List Row) where
   pub rows-begin : RowsSoFar k old 0 old
-  rows-begin = record { size = refl; rows = λ i h. absurd (omega arith) }
+  rows-begin = record { size = refl; rows = λ i h. absurd (omega arith); rest = λ i h. refl }
 
-  pub rows-go-on : (a : ℕ) (new : List Row) (row : Row) → a < length old → RowsSoFar k old a new → row ≡ joined k (getD old k noMarks) (getD old a noMarks)
+  pub rows-go-on : (a : ℕ) (new : List Row) (row : Row) → a < length old → RowsSoFar k old a new → row ≡ joined k (getD old k noMarks) (getD new a noMarks)
       → RowsSoFar k old (a + 1) (set new a row)
   rows-go-on a new row h s e = record {
     size = length-set new a row ∙ s .size;
     rows = λ i l. elim (ℕ-discrete i a) [
       | yes z ↦
           subst (λ x. getD (set new a row) x noMarks ≡ joined k (getD old k noMarks) (getD old x noMarks)) (sym z)
-          (getD-set-same new a row noMarks (omega (arith, s .size)) ∙ e)
+          (getD-set-same new a row noMarks (omega (arith, s .size)) ∙ e ∙ ap (joined k (getD old k noMarks)) (s .rest a (omega arith)))
       | no d ↦ getD-set-other new a i row noMarks d ∙ s .rows i (omega arith)
     ];
+    rest = λ i l. getD-set-other new a i row noMarks (λ z. omega arith) ∙ s .rest i (omega arith);
   }
 
   pub rows-end : (n a : ℕ) (new : List Row) → n ≤ a → RowsSoFar k old a new → Joined n k old new

@@ -3,7 +3,6 @@ use Prim.Native.Nat.{ℕ, _≤_}
 use mathlib.Core.Path.{_≡_, sym, ap, subst, fun-ext, _∙_}
 use mathlib.Core.Bool.{Bool, true, false, _&&_}
 use mathlib.Core.List.{List}
-use native.Mathlib.Omega.{arith}
 use lib.ListN.{getD, take, replicate}
 use lib.Dec.{leb}
 use borrow.Author.Tests.{leb-true}
@@ -24,10 +23,9 @@ use Rattle.marks.specs.Row.{marked, noMarks}
 use Rattle.marks.specs.declared.Row.{Row}
 use Rattle.network.specs.Lists.{fillTo}
 use Rattle.network.specs.ListLaws.{take-fill}
-use Rattle.network.specs.Chains.{Relation, holds, chains}
-use Rattle.network.specs.ChainsSame.{chains-same}
+use Rattle.network.specs.Chains.{holds, chains}
 use Rattle.network.specs.Frame.{noProcess, fitsFrame}
-use Rattle.network.specs.Pairs.{noPair, isPair, goodEnds, aheads, cyclic}
+use Rattle.network.specs.Pairs.{noPair, goodEnds, cyclic}
 use Rattle.network.specs.Net.{Net, noChannel, noNetwork}
 use Rattle.network.specs.Read.{ranged, oneProcess, onePair, channelWith, oneChannel, afterChannels, afterChannelCount, afterPairs, afterPairCount, afterProcesses, afterProcessCount, afterVersion, loadedOf}
 use Rattle.network.specs.Told.{isDone, processesOf, pairRows, pairsOf, endsBy, channelsOf, Filled}
@@ -38,8 +36,7 @@ use Rattle.network.specs.declared.Loaded.{Loaded}
 use Rattle.network.specs.declared.processes.ProcessesRead.{ProcessesRead}
 use Rattle.network.specs.declared.pairs.PairsRead.{PairsRead}
 use Rattle.network.specs.declared.channels.ChannelsRead.{ChannelsRead}
-use Rattle.network.proofs.PairRows.{row-has}
-use Rattle.network.proofs.Ends.{ends-rows}
+use Rattle.network.specs.RowLaws.{ends-rows, cycle-rows}
 
 abbrev pub refusedAt : Reply → ℕ → Loaded
 refusedAt reply place = record { answer = record { reply = reply; place = place }; network = noNetwork }
@@ -139,12 +136,8 @@ module _ (file : List ℕ) (n count at : ℕ) (small : n ≤ 12) (stored : List 
   taken-rows = marks ∙ ap pairRows (sym (taken (onePair file n) count at w))
 
   module _ (t : Bool) (told : t ≡ any n (λ a. holds (chains n (λ a b. marked (getD rows a noMarks) b)) a a)) (processes : List Process) (r : Loaded) where
-    same-chains : chains n (λ a b. marked (getD rows a noMarks) b) ≡ chains n (isPair (w .list))
-    same-chains = chains-same n _ _ (λ a b h l. ap (λ (q : List Row). marked (getD q a noMarks) b) marks ∙ row-has (w .list) a b (omega arith) (omega arith))
-
     turns : t ≡ cyclic n (w .list)
-    unfolding cyclic aheads
-    turns = told ∙ ap (λ (c : Relation). any n (λ a. holds c a a)) same-chains
+    turns = told ∙ ap (λ (q : List Row). any n (λ a. holds (chains n (λ a b. marked (getD q a noMarks) b)) a a)) marks ∙ cycle-rows n (w .list) small
 
     pub pairs-turn : t ≡ true → r ≡ refusedAt BadPair next → r ≡ loadedOf (afterPairCount file n processes count at)
     unfolding afterPairCount

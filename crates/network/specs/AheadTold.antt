@@ -1,16 +1,21 @@
 -- Rows of marks from the pairs of a struct, and from the chains of its pairs.
 use Prim.Native.Nat.{ℕ, _<_, min}
 use mathlib.Core.Path.{_≡_}
-use mathlib.Core.Bool.{_||_}
+use mathlib.Core.Bool.{cond, _&&_, _||_}
 use mathlib.Core.List.{List}
 use lib.ListN.{getD}
-use Rattle.marks.specs.Row.{marked, noMarks}
+use lib.Dec.{ltb}
+use Rattle.marks.specs.Row.{marked, noMarks, withOf}
 use Rattle.marks.specs.declared.Row.{Row}
 use Rattle.network.specs.Chains.{holds}
 use Rattle.network.specs.Pairs.{samePair, isPair, aheads}
 use Rattle.network.specs.Net.{within}
 use Rattle.network.specs.declared.Pair.{Pair}
 use Rattle.network.specs.declared.Network.{Network}
+
+-- the row of a pair's higher process with the pair marked, where both are below 12
+unfoldable pub withPair : Pair → Row → Row
+withPair pair row = cond (ltb (pair .higher) 12 && ltb (pair .lower) 12) (withOf row (pair .lower)) row
 
 -- below 12, one pair more is marked
 pub record PairAdded (pair : Pair) (old new : List Row) : Type 0 where

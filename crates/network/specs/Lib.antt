@@ -15,7 +15,8 @@ pub mod Write
 pub mod Valid
 pub mod Opens
 pub mod Told
+pub mod RowLaws
 pub mod AheadTold
 pub mod ProgramsTold
+pub mod NamedLaws
 pub mod ProgramLaws
-pub mod Laid

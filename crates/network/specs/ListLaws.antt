@@ -1,12 +1,12 @@
 -- Laws of tables, of tests of every element, and of lists that are filled up.
-use Prim.Native.Nat.{ℕ, zero, suc, _+_, _-_, _≤_, _<_}
+use Prim.Native.Nat.{ℕ, zero, suc, _+_, _-_, _≤_, _<_, min}
 use mathlib.Core.Path.{_≡_, refl, sym, ap, _∙_}
 use mathlib.Core.Bool.{Bool, true}
 use mathlib.Core.List.{List, [], _∷_, _++_, append-assoc, append-nil}
 use native.Mathlib.Decide.{decLt}
 use native.Mathlib.Omega.{arith}
 use lib.ListN.{length, getD, take, set, replicate, length-append, length-replicate, getD-replicate, List·getD-append, List·getD-eq-default}
-use lib.Seq.{getD-append-add, set-append-seam, take-append-seam}
+use lib.Seq.{getD-append-add, set-append-seam, take-append-seam, take-all}
 use Rattle.reply.specs.Tests.{both}
 use Rattle.network.specs.Lists.{table, every, eachOf, fillTo}
 
@@ -31,6 +31,15 @@ module _ {A : Type 0} where
 
   pub getD-table-past : (n : ℕ) (f : ℕ → A) (i : ℕ) (d : A) → n ≤ i → getD (table n f) i d ≡ d
   getD-table-past n f i d h = List·getD-eq-default (table n f) d {n = i} (omega (arith, length-table n f))
+
+  -- ---- as many as there are
+
+  -- a count above the length takes all
+  pub take-lesser : (l : List A) (count n most : ℕ) → length l ≡ most → n ≡ min count most → take n l ≡ take count l
+  take-lesser l count n most size e = elim (decLt count most) [
+    | yes h ↦ let z : n ≡ count = omega arith in rw z
+    | no h ↦ take-all n l (omega arith) ∙ sym (take-all count l (omega arith))
+  ]
 
   -- ---- every element
 
@@ -103,3 +112,13 @@ module _ {A : Type 0} where
       let z : n - length l ≡ suc (n - (length l + 1)) = omega arith in
       let y : length (l ++ (x ∷ [])) ≡ length l + 1 = length-append l (x ∷ []) in
       rw (z, y, append-assoc) (set-append-seam l d (replicate (n - (length l + 1)) d) x)
+
+  -- ---- the same element so many times
+
+  pub getD-replicated : (n k : ℕ) (a : A) → getD (replicate n a) k a ≡ a
+  getD-replicated n k a = ap (λ (l : List A). getD l k a) (sym (fill-none n a)) ∙ fill-at n a [] k
+
+  pub take-replicate : (k n : ℕ) (a : A) → k ≤ n → take k (replicate n a) ≡ replicate k a
+  take-replicate zero n a h = refl
+  take-replicate (suc k) zero a h = absurd (omega arith)
+  take-replicate (suc k) (suc n) a h = ap (λ (t : List A). a ∷ t) (take-replicate k n a (omega arith))

@@ -9,8 +9,8 @@ use Rattle.network.specs.Frame.{frameLength, jobCount, fitsFrame}
 use Rattle.network.specs.Pairs.{samePair, isPair, apart, goodPair, goodEnds, aheads, cyclic}
 use Rattle.network.specs.Net.{fill, programAt, within}
 use Rattle.network.specs.Read.{ranged, oneProcess, onePair, channelWith, oneChannel, goodAction, oneAction, oneProgram, afterChannels, afterChannelCount, afterPairs, afterPairCount, afterProcesses, afterProcessCount, afterVersion, load, readFile}
-use Rattle.network.specs.Write.{programFields, fields, encodeNetwork, writing, wrote, wroteTo}
+use Rattle.network.specs.Write.{programFields, fields, encodeNetwork, given, writing, toldOf, filledBy, wrote, wroteTo}
 
 unfoldable pub file-definitions : Type 1
-unfolding all any count sum firstFrom many restFrom numberFrom numberAt groups encode table every eachOf fillTo holds relation through chains frameLength jobCount fitsFrame samePair isPair apart goodPair goodEnds aheads cyclic fill programAt within ranged oneProcess onePair channelWith oneChannel goodAction oneAction oneProgram afterChannels afterChannelCount afterPairs afterPairCount afterProcesses afterProcessCount afterVersion load readFile programFields fields encodeNetwork writing wrote wroteTo
+unfolding all any count sum firstFrom many restFrom numberFrom numberAt groups encode table every eachOf fillTo holds relation through chains frameLength jobCount fitsFrame samePair isPair apart goodPair goodEnds aheads cyclic fill programAt within ranged oneProcess onePair channelWith oneChannel goodAction oneAction oneProgram afterChannels afterChannelCount afterPairs afterPairCount afterProcesses afterProcessCount afterVersion load readFile programFields fields encodeNetwork given writing toldOf filledBy wrote wroteTo
 file-definitions = Type 0

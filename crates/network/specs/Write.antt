@@ -30,16 +30,27 @@ fields n =
 unfoldable pub encodeNetwork : Network → List ℕ
 encodeNetwork n = eachOf encode (fields n)
 
+-- the bytes of a file, where there is room for them
+unfoldable pub given : List ℕ → ℕ → Result (List ℕ)
+given file room =
+    andThen (require (leb (length file) room) ShortBuffer 0) λ ok.
+    done file
+
 -- the bytes to write where there are `room`
 unfoldable pub writing : Network → ℕ → Result (List ℕ)
 writing n room =
     andThen (load (encodeNetwork n)) λ net.
-    andThen (require (leb (length (encodeNetwork n)) room) ShortBuffer 0) λ ok.
-    done (encodeNetwork n)
+    given (encodeNetwork n) room
 
 -- what the writer returns, and the lent bytes afterwards
+unfoldable pub toldOf : Result (List ℕ) → Written
+toldOf r = record { answer = answerOf r; length = orZero 0 (λ (b : List ℕ). length b) r }
+
+unfoldable pub filledBy : List ℕ → Result (List ℕ) → List ℕ
+filledBy out r = orZero out (λ (b : List ℕ). sets out 0 b) r
+
 unfoldable pub wrote : Network → List ℕ → Written
-wrote n out = record { answer = answerOf (writing n (length out)); length = orZero 0 (λ (b : List ℕ). length b) (writing n (length out)) }
+wrote n out = toldOf (writing n (length out))
 
 unfoldable pub wroteTo : Network → List ℕ → List ℕ
-wroteTo n out = orZero out (λ (b : List ℕ). sets out 0 b) (writing n (length out))
+wroteTo n out = filledBy out (writing n (length out))

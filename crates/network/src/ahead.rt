@@ -1,28 +1,24 @@
 // Rows of marks from the pairs of a struct, which may be any pairs: row a marks b where a-b is a pair.
 use crate::Pair;
+use crate::numbers;
 use crate::pairs;
-use crate::writing;
 use marks::Row;
+ghost use mathlib.Core.Path.{_≡_};
 ghost use Prim.Native.Nat.{_≤_};
 ghost use lib.ListN.{take};
-ghost use Rattle.network.specs.AheadTold.{PairAdded, MarksPairs};
+ghost use Rattle.network.specs.AheadTold.{withPair, MarksPairs};
 
-// The rows with one pair more; a pair of a number that is no process is left out.
-fn with_pair(rows: [Row; 12], pair: Pair) -> [Row; 12]
-    ensures { λ r. ⌜ PairAdded pair rows r ⌝ }
+// The row of a pair's higher process with the pair marked; a pair of a number that is no process is left out.
+fn with_pair(row: Row, pair: Pair) -> Row
+    ensures { λ r. ⌜ r ≡ withPair pair row ⌝ }
 {
-    let higher = pair.higher as usize;
     let lower = pair.lower as usize;
-    if higher < 12 {
+    if pair.higher < 12 {
         if lower < 12 {
-            let row = rows[higher];
-            let more = row.with(lower);
-            let mut out = rows;
-            out[higher] = more;
-            return out;
+            return row.with(lower);
         }
     }
-    rows
+    row
 }
 
 // The first so many pairs.
@@ -34,8 +30,10 @@ fn pair_rows(pairs: [Pair; 66], count: usize) -> [Row; 12]
     let mut i = 0usize;
     while i < count {
         let pair = pairs[i];
-        let more = with_pair(rows, pair);
-        rows = more;
+        let at = numbers::lesser(pair.higher, 11);
+        let row = rows[at];
+        let more = with_pair(row, pair);
+        rows[at] = more;
         i += 1;
     }
     rows
@@ -45,6 +43,6 @@ fn pair_rows(pairs: [Pair; 66], count: usize) -> [Row; 12]
 pub fn rows_of_count(pairs: [Pair; 66], count: u32) -> [Row; 12]
     ensures { λ r. ⌜ MarksPairs (take count pairs) r ⌝ }
 {
-    let most = writing::lesser(count, 66);
+    let most = numbers::lesser(count, 66);
     pair_rows(pairs, most)
 }

@@ -27,14 +27,14 @@ pub struct ChannelsRead {
     pub next: usize,
 }
 
-fn most_capacity(kind: u32) -> u32
+pub fn most_capacity(kind: u32) -> u32
     ensures { λ r. ⌜ r ≡ mostCapacity kind ⌝ }
 {
     if kind == 1 { 1 } else { 8 }
 }
 
 // Two processes of n with a pair of their own, the one way or the other.
-fn are_paired(rows: [Row; 12], n: u32, writer: u32, reader: u32) -> bool
+pub fn are_paired(rows: [Row; 12], n: u32, writer: u32, reader: u32) -> bool
     requires { ⌜ n ≤ 12 ⌝ }
     ensures { λ r. ⌜ r ≡ endsBy n rows writer reader ⌝ }
 {

@@ -1,12 +1,12 @@
 // Chains in rows of marks: mark b of row a is a step from a to b, and a cycle is a chain of steps that leads from a number to itself.
 use marks::Row;
 ghost use mathlib.Core.Path.{_≡_};
-ghost use Prim.Native.Nat.{_≤_, _<_};
+ghost use Prim.Native.Nat.{_≤_};
 ghost use lib.ListN.{getD};
 ghost use Rattle.reply.specs.Tools.{any};
 ghost use Rattle.marks.specs.Row.{marked, noMarks};
 ghost use Rattle.network.specs.Chains.{holds, chains};
-ghost use Rattle.network.specs.RowChains.{joined, Joined, Leads};
+ghost use Rattle.network.specs.RowChains.{joined, Leads};
 
 // The marks of the row and, where it has mark k, those of row k, which is `via`.
 fn join(row: Row, k: usize, via: Row) -> Row
@@ -18,24 +18,7 @@ fn join(row: Row, k: usize, via: Row) -> Row
     row
 }
 
-// Each of the first n rows joined with row k: where chains lead, now through k too.
-fn join_rows(rows: [Row; 12], n: usize, k: usize) -> [Row; 12]
-    requires { ⌜ (n ≤ 12) × (k < n) ⌝ }
-    ensures { λ r. ⌜ Joined n k rows r ⌝ }
-{
-    let via = rows[k];
-    let mut out = rows;
-    let mut a = 0usize;
-    while a < n {
-        let row = rows[a];
-        let new = join(row, k, via);
-        out[a] = new;
-        a += 1;
-    }
-    out
-}
-
-// Where chains of steps lead, among the first n.
+// Where chains of steps lead, among the first n: each row joined with row k, for one k after another.
 pub fn lead(rows: [Row; 12], n: usize) -> [Row; 12]
     requires { ⌜ n ≤ 12 ⌝ }
     ensures { λ r. ⌜ Leads n (λ a b. marked (getD rows a noMarks) b) n r ⌝ }
@@ -43,8 +26,14 @@ pub fn lead(rows: [Row; 12], n: usize) -> [Row; 12]
     let mut out = rows;
     let mut k = 0usize;
     while k < n {
-        let next = join_rows(out, n, k);
-        out = next;
+        let via = out[k];
+        let mut a = 0usize;
+        while a < n {
+            let row = out[a];
+            let new = join(row, k, via);
+            out[a] = new;
+            a += 1;
+        }
         k += 1;
     }
     out

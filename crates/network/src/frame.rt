@@ -1,6 +1,6 @@
 // The frame: its length, the least common multiple of the periods, and whether it and its jobs are few enough.
 use crate::Process;
-use crate::writing;
+use crate::numbers;
 ghost use mathlib.Core.Path.{_≡_};
 ghost use Prim.Native.Nat.{_*_, _≤_, _<_};
 ghost use lib.ListN.{take};
@@ -56,7 +56,7 @@ pub fn frame_length(processes: [Process; 12], count: usize) -> u32
 pub fn frame_of_count(processes: [Process; 12], count: u32) -> u32
     ensures { λ r. ⌜ r ≡ frameLength (take count processes) ⌝ }
 {
-    let most = writing::lesser(count, 12);
+    let most = numbers::lesser(count, 12);
     frame_length(processes, most)
 }
 

@@ -1,29 +1,23 @@
-// The network file: a reader and a writer by one rule. And of a network its frame's length, and which process comes before which.
+// The network file and its reader. And of a network its frame's length, and which process comes before which.
 mod ahead;
-mod channels;
-mod cycles;
-mod frame;
-mod numbers;
-mod pairs;
+pub mod channels;
+pub mod cycles;
+pub mod frame;
+pub mod numbers;
+pub mod pairs;
 mod processes;
-mod programs;
+pub mod programs;
 mod reading;
-mod writing;
 
 use marks::Row;
 use number::Number;
 use reply::Answer;
 use reply::Reply;
 ghost use mathlib.Core.Path.{_≡_};
-ghost use Prim.Native.Nat.{_≤_};
-ghost use lib.ListN.{length, replicate};
-ghost use lib.Seq.{sets};
-ghost use Rattle.reply.specs.Result.{answerOf};
 ghost use Rattle.network.specs.Frame.{frameLength};
 ghost use Rattle.network.specs.Net.{within};
 ghost use Rattle.network.specs.AheadTold.{AheadTold};
-ghost use Rattle.network.specs.Read.{load, readFile};
-ghost use Rattle.network.specs.Write.{wrote, wroteTo};
+ghost use Rattle.network.specs.Read.{readFile};
 
 // One process: its period, the jobs it releases each time, and each job's relative deadline and budget, in ticks.
 #[repr(C)]
@@ -100,59 +94,6 @@ pub fn read(file: &[u8]) -> Loaded
     }
 }
 
-fn judge(file: &[u8]) -> Answer
-    ensures { λ r. ⌜ r ≡ answerOf (load (now (file .entry))) ⌝ }
-{
-    let loaded = read(file);
-    loaded.answer
-}
-
-fn no_bytes() -> [u8; 7060]
-    ensures { λ r. ⌜ r ≡ replicate 7060 0 ⌝ }
-{
-    [0; 7060]
-}
-
-// Copies bytes to the front of a buffer that has room for them.
-fn copy(bytes: &[u8], out: &mut [u8])
-    requires { ⌜ length (now bytes) ≤ length (now out) ⌝ }
-    ensures { λ _. ⌜ now (out .exit) ≡ sets (now (out .entry)) 0 (now (bytes .entry)) ⌝ }
-{
-    let mut i = 0usize;
-    while i < bytes.len() {
-        out[i] = bytes[i];
-        i += 1;
-    }
-}
-
-// Writes the file of a network, if the reader would accept it and there is room; else nothing.
-pub fn write(network: Network, out: &mut [u8]) -> Written
-    ensures { λ r. ⌜ r ≡ wrote network (now (out .entry)) ⌝ }
-    ensures { λ r. ⌜ now (out .exit) ≡ wroteTo network (now (out .entry)) ⌝ }
-{
-    let mut bytes = no_bytes();
-    let size = writing::encode_network(network, &mut bytes);
-    let answer = judge(&bytes[..size]);
-    let reply = answer.reply;
-    if reply::number(reply) != 0 {
-        return Written { answer, length: 0 };
-    }
-    if out.len() < size {
-        return Written {
-            answer: Answer {
-                reply: Reply::ShortBuffer,
-                place: 0,
-            },
-            length: 0,
-        };
-    }
-    copy(&bytes[..size], out);
-    Written {
-        answer,
-        length: size,
-    }
-}
-
 // The length of the frame of a network, 2001 if it is above 2000.
 pub fn frame_of(network: Network) -> u32
     ensures { λ r. ⌜ r ≡ frameLength (within network .processes) ⌝ }
@@ -167,6 +108,6 @@ pub fn ahead_of(network: Network) -> [Row; 12]
 {
     let pairs = network.pairs;
     let rows = ahead::rows_of_count(pairs, network.pair_count);
-    let n = writing::lesser(network.process_count, 12);
+    let n = numbers::lesser(network.process_count, 12);
     cycles::lead(rows, n)
 }

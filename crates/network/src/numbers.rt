@@ -2,6 +2,7 @@
 use number::Number;
 use reply::Reply;
 ghost use mathlib.Core.Path.{_≡_};
+ghost use Prim.Native.Nat.{min};
 ghost use Rattle.number.specs.Parts.{reading};
 ghost use Rattle.number.specs.Number.{numberAt};
 ghost use Rattle.number.specs.Told.{numberOf};
@@ -56,4 +57,15 @@ pub fn then_in_range(file: &[u8], last: Number, low: u32, high: u32) -> Number
         Number::Value { value: _, next } => in_range(file, low, high, next),
         Number::Refused { reply, place } => Number::Refused { reply, place },
     }
+}
+
+// A count above `most` counts all that there are.
+pub fn lesser(count: u32, most: usize) -> usize
+    ensures { λ r. ⌜ r ≡ min count most ⌝ }
+{
+    let n = count as usize;
+    if n < most {
+        return n;
+    }
+    most
 }

@@ -80,7 +80,7 @@ fn is_skip(n: usize, k: usize, skipped: u32) -> bool
 }
 
 // Whether action k of n of process p is good. `known` says whether its first operand names a channel, and `channel` which.
-fn good_action(four: Four, known: bool, channel: Channel, p: u32, n: usize, k: usize) -> bool
+pub fn good_action(four: Four, known: bool, channel: Channel, p: u32, n: usize, k: usize) -> bool
     requires { ⌜ k < n ⌝ }
     ensures { λ r. ⌜ Judged known channel p n k four r ⌝ }
 {
@@ -143,7 +143,7 @@ fn store_four(actions: &mut [u32; 1152], at: usize, four: Four)
 }
 
 // Where the channel of this number stands; 0 if it is not known.
-fn place_of(known: bool, number: u32) -> usize
+pub fn place_of(known: bool, number: u32) -> usize
     ensures { λ r. ⌜ r ≡ cond known number 0 ⌝ }
 {
     if known {
@@ -152,7 +152,7 @@ fn place_of(known: bool, number: u32) -> usize
     0
 }
 
-fn is_below(number: u32, count: usize) -> bool
+pub fn is_below(number: u32, count: usize) -> bool
     ensures { λ r. ⌜ r ≡ ltb number count ⌝ }
 {
     (number as usize) < count

@@ -140,7 +140,7 @@ pub fn width(n: u32) -> usize
 }
 
 // Writes the groups of n from `from` on, where there is room, and returns the position after them.
-fn put_groups(out: &mut [u8], from: usize, n: u32) -> usize
+pub fn put_groups(out: &mut [u8], from: usize, n: u32) -> usize
     requires { ⌜ from + length (encode n) ≤ length (now out) ⌝ }
     ensures { λ r. ⌜ r ≡ from + length (encode n) ⌝ }
     ensures { λ r. ⌜ now (out .exit) ≡ sets (now (out .entry)) from (encode n) ⌝ }

@@ -1,2 +1,4 @@
 mod CheckCases
 mod CheckLoops
+mod PlanLoops
+mod Copying

@@ -1,5 +1,5 @@
 -- The checker accepts exactly the feasible plans, and refuses each other by the first fault of its least faulty job. It reads no words past the plan.
-use Prim.Native.Nat.{ℕ, zero, suc, _*_, _+_, _≤_, _<_}
+use Prim.Native.Nat.{ℕ, _*_, _+_, _≤_, _<_}
 use mathlib.Core.Path.{_≡_, refl, sym, ap, subst, _∙_}
 use mathlib.Core.Logic.{_⊎_, inl, inr}
 use mathlib.Core.Bool.{Bool, true, false, cond, not}
@@ -14,7 +14,7 @@ use Rattle.reply.specs.Tests.{clash, both, both-true}
 use Rattle.reply.specs.AllAny.{any-true, any-false, any-same}
 use Rattle.reply.specs.Reply.{replyNumber}
 use Rattle.reply.specs.Result.{Result, done, refused, andThen, require, inOrder}
-use Rattle.reply.specs.ResultLaws.{refused-not, order-done, order-make, order-refused}
+use Rattle.reply.specs.ResultLaws.{Refusal, refusal-of, order-done, order-make, order-refused, order-same, Honest, honest-then, honest-require, honest-order}
 use Rattle.reply.specs.declared.Reply.{Reply}
 use Rattle.reply.specs.declared.Reply.the-variants.{WrongProcessor, BeforeRelease, EndsLate, Overlaps, BeforePredecessor}
 use Rattle.graph.specs.Work.{Work, jobCountOf, release, deadline, precedes}
@@ -23,30 +23,6 @@ use Rattle.plan.specs.Plan.{processorAt, startAt, endAt, overlap, tooSoo
 use Rattle.plan.specs.Feasible.{Apart, Feasible, Overlapping, Fault, wrong-processor, before-release, ends-late, overlaps, before-predecessor, Faulty}
 
 -- ---- one judged after another
-
--- of judges in order, the first that refuses
-record Refusal (judge : ℕ → Result (Unit {0})) (n : ℕ) (reply : Reply) (place : ℕ) : Type 0 where
-  at : ℕ
-  below : at < n
-  before : inOrder at judge ≡ done tt
-  refuses : judge at ≡ refused reply place
-
-refusal-of : (n : ℕ) (judge : ℕ → Result (Unit {0})) (reply : Reply) (place : ℕ) → inOrder n judge ≡ refused reply place → Refusal judge n reply place
-unfolding inOrder
-refusal-of zero judge reply place e = refused-not (sym e)
-refusal-of (suc n) judge reply place e = go (inOrder n judge) refl e (refusal-of n judge reply place)
-  where
-    go : (r : Result (Unit {0})) → inOrder n judge ≡ r → andThen r (λ ok. judge n) ≡ refused reply place
-        → (inOrder n judge ≡ refused reply place → Refusal judge n reply place) → Refusal judge (suc n) reply place
-    go (done tt) d e ih = record { at = n; below = omega arith; before = d; refuses = e }
-    go (refused r p) d e ih =
-        let R : Refusal judge n reply place = ih (d ∙ e) in
-        record { at = R .at; below = omega arith; before = R .before; refuses = R .refuses }
-
-order-same : (n : ℕ) (f g : ℕ → Result (Unit {0})) → ((i : ℕ) → i < n → f i ≡ g i) → inOrder n f ≡ inOrder n g
-unfolding inOrder
-order-same zero f g e = refl
-order-same (suc n) f g e = rw (order-same n f g (λ i h. e i (omega arith)), e n (omega arith))
 
 -- ---- the tests
 
@@ -79,6 +55,21 @@ module _ (w : Work) (plan : List ℕ) where
   too-soon-make i j p l = both-true _ _ p (lt-ltb _ _ l)
 
 -- ---- one job
+
+module _ (w : Work) (m : ℕ) (plan : List ℕ) where
+  -- a fault is not told as "done"
+  honest-fault : (j : ℕ) → Honest (fault w m plan j)
+  unfolding fault
+  honest-fault j =
+      honest-then _ _ (honest-require (ltb (processorAt plan j) m) WrongProcessor j (omega arith)) λ ok₁.
+      honest-then _ _ (honest-require (leb (release w j) (startAt plan j)) BeforeRelease j (omega arith)) λ ok₂.
+      honest-then _ _ (honest-require (leb (endAt w plan j) (deadline w j)) EndsLate j (omega arith)) λ ok₃.
+      honest-then _ _ (honest-require (not (any j (λ i. overlap w plan i j))) Overlaps j (omega arith)) λ ok₄.
+      honest-require (not (any j (λ i. tooSoon w plan i j))) BeforePredecessor j (omega arith)
+
+  pub honest-check : Honest (checkedBy w m plan)
+  unfolding checkedBy
+  honest-check = honest-order (jobCountOf w) (fault w m plan) (λ j h. honest-fault j)
 
 -- the fault of a number
 numbered : ℕ → Reply

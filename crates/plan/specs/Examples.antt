@@ -21,7 +21,7 @@ abbrev twoApart : List ℕ
 twoApart = 1 ∷ 2 ∷ 10 ∷ 1 ∷ 10 ∷ 6 ∷ 10 ∷ 1 ∷ 10 ∷ 6 ∷ 0 ∷ 0 ∷ 0 ∷ 0 ∷ []
 
 -- process 0: 20, 1, 20, 10; process 1: 10, 1, 5, 1; no pairs
-abbrev longAndShort : List ℕ
+abbrev pub longAndShort : List ℕ
 longAndShort = 1 ∷ 2 ∷ 20 ∷ 1 ∷ 20 ∷ 10 ∷ 10 ∷ 1 ∷ 5 ∷ 1 ∷ 0 ∷ 0 ∷ 0 ∷ 0 ∷ []
 
 -- budgets 10, 5, 5, all period and deadline 20, pair 0-2

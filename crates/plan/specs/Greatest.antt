@@ -27,3 +27,9 @@ pub greatest-least : (n : ℕ) (f : ℕ → ℕ) (top : ℕ) → ((i : ℕ) → 
 unfolding greatest
 greatest-least zero f top h = omega arith
 greatest-least (suc n) f top h = omega (arith, greatest-least n f top (λ i l. h i (omega arith)), h n (omega arith))
+
+-- it depends on what stands there alone
+pub greatest-same : (n : ℕ) (f g : ℕ → ℕ) → ((i : ℕ) → i < n → f i ≡ g i) → greatest n f ≡ greatest n g
+unfolding greatest
+greatest-same zero f g e = refl
+greatest-same (suc n) f g e = rw (greatest-same n f g (λ i h. e i (omega arith)), e n (omega arith))

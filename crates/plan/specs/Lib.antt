@@ -9,4 +9,7 @@ pub mod PlaceLaws
 pub mod PlannerLaws
 pub mod Promise
 pub mod CheckTold
+pub mod PlanTold
+pub mod PlanSteps
 pub mod CheckTables
+pub mod CallLaws

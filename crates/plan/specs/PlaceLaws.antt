@@ -1,19 +1,18 @@
 -- What is placed is as the checker wants it, and stays so when one more job is placed.
-use Prim.Native.Nat.{ℕ, zero, suc, _+_, _*_, _≤_, _<_}
+use Prim.Native.Nat.{ℕ, _+_, _*_, _≤_, _<_}
 use mathlib.Core.Path.{_≡_, refl, sym, ap, subst, _∙_}
 use mathlib.Core.Logic.{_≢_, _⊎_, inl, inr}
-use mathlib.Core.Bool.{Bool, true, false, not, _||_}
-use mathlib.Core.List.{List, []}
+use mathlib.Core.Bool.{true, false, not, _||_}
 use native.Mathlib.Decide.{ℕ-discrete}
 use native.Mathlib.Omega.{arith}
-use lib.ListN.{length, getD, set, replicate, length-set, length-replicate}
+use lib.ListN.{length, set, length-set, length-replicate}
 use lib.Seq.{getD-set-same, getD-set-other}
 use borrow.Author.Tests.{not-true}
 use Rattle.reply.specs.Tools.{count}
 use Rattle.reply.specs.Tests.{clash, both, implies}
 use Rattle.reply.specs.AllAny.{all-true}
-use Rattle.reply.specs.Counts.{count-one-more}
-use Rattle.network.specs.ListLaws.{fill-none, fill-at}
+use Rattle.reply.specs.Counts.{count-none, count-one-more}
+use Rattle.network.specs.ListLaws.{getD-replicated}
 use Rattle.graph.specs.Work.{Work, jobCountOf, precedes, release, deadline, cost}
 use Rattle.graph.specs.WorkLaws.{Forward}
 use Rattle.plan.specs.Plan.{processorAt, startAt, endAt, Planning, isPlaced, lastEnd, nothingPlaced, canPlace, startOn, placeAt}
@@ -44,14 +43,6 @@ pub record Sound (w : Work) (m n : ℕ) (s : Planning) : Type 0 where
   pub last : (j : ℕ) → isPlaced s j ≡ true → endAt w (s .words) j ≤ lastEnd s (processorAt (s .words) j)
   pub in-frame : (p : ℕ) → lastEnd s p ≤ w .frame
 
-getD-replicated : {A : Type 0} (n k : ℕ) (a : A) → getD (replicate n a) k a ≡ a
-getD-replicated {A} n k a = ap (λ (l : List A). getD l k a) (sym (fill-none n a)) ∙ fill-at n a [] k
-
-count-none : (n : ℕ) (q : ℕ → Bool) → ((i : ℕ) → q i ≡ false) → count n q ≡ 0
-unfolding count
-count-none zero q f = refl
-count-none (suc n) q f = rw (f n) (omega (arith, count-none n q f))
-
 -- ---- nothing is placed yet
 
 none-placed : (w : Work) (m j : ℕ) → isPlaced (nothingPlaced w m) j ≡ false
@@ -64,7 +55,7 @@ nothing-sound w m = record {
   words-size = length-replicate _ _;
   placed-size = length-replicate _ _;
   ends-size = length-replicate _ _;
-  number = count-none (jobCountOf w) (isPlaced (nothingPlaced w m)) (none-placed w m);
+  number = count-none (jobCountOf w) (isPlaced (nothingPlaced w m)) (λ i h. none-placed w m i);
   down = λ i j p e. clash e (none-placed w m j);
   processor = λ j e. clash e (none-placed w m j);
   released = λ j e. clash e (none-placed w m j);
@@ -109,11 +100,11 @@ module _ (w : Work) (m n : ℕ) (P : Plannable w) (s : Planning) (S : Sound w m 
     abbrev t : Planning
     t = placeAt w s j p
 
-    placed-own : isPlaced t j ≡ true
+    pub placed-own : isPlaced t j ≡ true
     unfolding placeAt
     placed-own = getD-set-same (s .placed) j true false (omega (arith, S .placed-size))
 
-    placed-other : (i : ℕ) → i ≢ j → isPlaced t i ≡ isPlaced s i
+    pub placed-other : (i : ℕ) → i ≢ j → isPlaced t i ≡ isPlaced s i
     unfolding placeAt
     placed-other i d = getD-set-other (s .placed) j i true false d
 
@@ -129,21 +120,21 @@ module _ (w : Work) (m n : ℕ) (P : Plannable w) (s : Planning) (S : Sound w m 
         getD-set-other (set (s .words) (2 * j) p) (2 * j + 1) (2 * i) start 0 (λ e. omega arith)
         ∙ getD-set-other (s .words) (2 * j) (2 * i) p 0 (λ e. d (omega arith))
 
-    start-own : startAt (t .words) j ≡ start
+    pub start-own : startAt (t .words) j ≡ start
     unfolding placeAt
     start-own = getD-set-same (set (s .words) (2 * j) p) (2 * j + 1) start 0 (omega (arith, length-set (s .words) (2 * j) p, S .words-size))
 
-    start-other : (i : ℕ) → i ≢ j → startAt (t .words) i ≡ startAt (s .words) i
+    pub start-other : (i : ℕ) → i ≢ j → startAt (t .words) i ≡ startAt (s .words) i
     unfolding placeAt
     start-other i d =
         getD-set-other (set (s .words) (2 * j) p) (2 * j + 1) (2 * i + 1) start 0 (λ e. d (omega arith))
         ∙ getD-set-other (s .words) (2 * j) (2 * i + 1) p 0 (λ e. omega arith)
 
-    last-own : lastEnd t p ≡ start + cost w j
+    pub last-own : lastEnd t p ≡ start + cost w j
     unfolding placeAt
     last-own = getD-set-same (s .ends) p (start + cost w j) 0 (omega (arith, S .ends-size))
 
-    last-other : (k : ℕ) → k ≢ p → lastEnd t k ≡ lastEnd s k
+    pub last-other : (k : ℕ) → k ≢ p → lastEnd t k ≡ lastEnd s k
     unfolding placeAt
     last-other k d = getD-set-other (s .ends) p k (start + cost w j) 0 d
 

@@ -41,7 +41,7 @@ module _ (net : Net) (ok : Valid net) where
   abbrev w : Work
   w = workOf net
 
-  plannable : Plannable (workOf net)
+  pub plannable : Plannable (workOf net)
   plannable = record {
     forward = goes-forward net ok;
     early = λ j h. omega (arith, jobs-are net ok .each j h .early);
@@ -106,7 +106,7 @@ module _ (net : Net) (ok : Valid net) where
 
 -- ---- the calls
 
-sets-front : (out words : List ℕ) → length words ≤ length out → (k : ℕ) → k < length words → getD (sets out 0 words) k 0 ≡ getD words k 0
+pub sets-front : (out words : List ℕ) → length words ≤ length out → (k : ℕ) → k < length words → getD (sets out 0 words) k 0 ≡ getD words k 0
 sets-front out words h k l = ap (λ (x : List ℕ). getD x k 0) (sets-eq words out 0 (omega arith)) ∙ List·getD-append words (drop (0 + length words) out) 0 k l
 
 -- the planner's plan is accepted at the front of longer memory too

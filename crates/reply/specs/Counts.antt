@@ -35,6 +35,11 @@ unfolding count
 count-all zero q f = refl
 count-all (suc n) q f = rw (f n (omega arith)) (omega (arith, count-all n q (λ i h. f i (omega arith))))
 
+pub count-none : (n : ℕ) (q : ℕ → Bool) → ((i : ℕ) → i < n → q i ≡ false) → count n q ≡ 0
+unfolding count
+count-none zero q f = refl
+count-none (suc n) q f = rw (f n (omega arith)) (omega (arith, count-none n q (λ i h. f i (omega arith))))
+
 pub count-full : (n : ℕ) (q : ℕ → Bool) → count n q ≡ n → (i : ℕ) → i < n → q i ≡ true
 unfolding count
 count-full zero q e i h = absurd (omega arith)

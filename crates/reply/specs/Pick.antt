@@ -1,6 +1,6 @@
 -- `pick` gives the number of least key that passes, and of those that tie the lowest.
 use Prim.Native.Nat.{ℕ, zero, suc, _≤_, _<_}
-use mathlib.Core.Path.{_≡_, refl, subst}
+use mathlib.Core.Path.{_≡_, refl, ap, subst, _∙_}
 use mathlib.Core.Bool.{Bool, true, false}
 use native.Mathlib.Omega.{arith}
 use lib.Dec.{ltb}
@@ -54,6 +54,13 @@ module _ (q : ℕ → Bool) (key : ℕ → ℕ) where
   pick-is zero = λ i h. absurd (omega arith)
   pick-is (suc n) = better-is n (pick q key n) (pick-is n)
 
+  pub pick-most : (n : ℕ) → pick q key n ≤ n
+  pick-most n = go (pick q key n) (pick-is n)
+    where
+      go : (x : ℕ) → Picked q key n x → x ≤ n
+      go zero h = omega arith
+      go (suc m) h = omega (arith, h .below)
+
   pub pick-zero : pick q key 0 ≡ 0
   unfolding pick
   pick-zero = refl
@@ -75,3 +82,19 @@ module _ (q : ℕ → Bool) (key : ℕ → ℕ) where
       go : (r : ℕ) → pick q key n ≡ r → (m : ℕ) × (pick q key n ≡ suc m)
       go zero e = clash t (none-picked n e i h)
       go (suc m) e = (m, e)
+
+-- what is picked depends on the test and the keys below n alone
+module _ (q r : ℕ → Bool) (key other : ℕ → ℕ) where
+  better-same : (n x : ℕ) → Picked q key n x → q n ≡ r n → ((i : ℕ) → i < suc n → key i ≡ other i) → better q key n x ≡ better r other n x
+  better-same n zero k e f = rw e refl
+  better-same n (suc m) k e f = rw (e, f n (omega arith), f m (omega (arith, k .below))) refl
+
+  pub pick-same : (n : ℕ) → ((i : ℕ) → i < n → q i ≡ r i) → ((i : ℕ) → i < n → key i ≡ other i) → pick q key n ≡ pick r other n
+  unfolding pick
+  pick-same zero e f = refl
+  pick-same (suc n) e f =
+      better-same n (pick q key n) (pick-is q key n) (e n (omega arith)) f
+      ∙ ap (better r other n) (pick-same n (λ i h. e i (omega arith)) (λ i h. f i (omega arith)))
+
+pub pick-tests : (q r : ℕ → Bool) (key : ℕ → ℕ) (n : ℕ) → ((i : ℕ) → i < n → q i ≡ r i) → pick q key n ≡ pick r key n
+pick-tests q r key n e = pick-same q r key key n e (λ i h. refl)

@@ -105,3 +105,28 @@ done-means r h e k = zero-means r h (ap replyNumber e) k
 pub other-means : {A P : Type 0} (r : Result A) → (replyNumber (answerOf r .reply) ≡ 0 → ⊥) → ((reply : Reply) (place : ℕ) → r ≡ refused reply place → P) → P
 other-means (done a) n k = absurd (n refl)
 other-means (refused reply place) n k = k reply place refl
+
+-- of judges in order, the first that refuses
+pub record Refusal (judge : ℕ → Result (Unit {0})) (n : ℕ) (reply : Reply) (place : ℕ) : Type 0 where
+  pub at : ℕ
+  pub below : at < n
+  pub before : inOrder at judge ≡ done tt
+  pub refuses : judge at ≡ refused reply place
+
+pub refusal-of : (n : ℕ) (judge : ℕ → Result (Unit {0})) (reply : Reply) (place : ℕ) → inOrder n judge ≡ refused reply place → Refusal judge n reply place
+unfolding inOrder
+refusal-of zero judge reply place e = refused-not (sym e)
+refusal-of (suc n) judge reply place e = go (inOrder n judge) refl e (refusal-of n judge reply place)
+  where
+    go : (r : Result (Unit {0})) → inOrder n judge ≡ r → andThen r (λ ok. judge n) ≡ refused reply place
+        → (inOrder n judge ≡ refused reply place → Refusal judge n reply place) → Refusal judge (suc n) reply place
+    go (done tt) d e ih = record { at = n; below = omega arith; before = d; refuses = e }
+    go (refused r p) d e ih =
+        let R : Refusal judge n reply place = ih (d ∙ e) in
+        record { at = R .at; below = omega arith; before = R .before; refuses = R .refuses }
+
+-- judges that say the same one by one say the same in order
+pub order-same : (n : ℕ) (f g : ℕ → Result (Unit {0})) → ((i : ℕ) → i < n → f i ≡ g i) → inOrder n f ≡ inOrder n g
+unfolding inOrder
+order-same zero f g e = refl
+order-same (suc n) f g e = rw (order-same n f g (λ i h. e i (omega arith)), e n (omega arith))

@@ -59,7 +59,7 @@ module _ {A : Type 0} (d : A) where
   all-but-last n xs h = sym (take-suc xs n d (omega arith)) ∙ take-all (suc n) xs (omega arith)
 
 module _ {A : Type 0} (d : A) (Good : List A → A → Type 0) where
-  goods-more : (n : ℕ) (xs : List A) (x : A) → Goods d Good n xs → Good xs x → Goods d Good (suc n) (xs ++ (x ∷ []))
+  pub goods-more : (n : ℕ) (xs : List A) (x : A) → Goods d Good n xs → Good xs x → Goods d Good (suc n) (xs ++ (x ∷ []))
   goods-more n xs x g h = record {
     size = omega (arith, length-append xs (x ∷ []), g .size);
     good = λ k l. elim (decLt k n) [

@@ -13,7 +13,7 @@ use Rattle.reply.specs.declared.Reply.the-variants.{Done, ShortBuffer}
 use Rattle.number.specs.Stands.{Bytes}
 use Rattle.network.specs.Net.{Net, fill, within}
 use Rattle.network.specs.Read.{load}
-use Rattle.network.specs.Write.{fields, encodeNetwork, writing, wrote, wroteTo}
+use Rattle.network.specs.Write.{fields, encodeNetwork, given, writing, toldOf, filledBy, wrote, wroteTo}
 use Rattle.network.specs.declared.Network.{Network}
 use Rattle.roundtrip.specs.Accept.{accepted-valid, accepted-bytes}
 use Rattle.roundtrip.specs.Under.{numbers-bytes}
@@ -45,7 +45,7 @@ module _ (s : Network) (arrays : Arrays s) (words : Words s) where
       record { fits-room = h; bytes = struct-bytes; read = e ∙ ap done (sym (t .same)); kept = subst (λ (n : Net). Kept s (fill n)) (sym (t .same)) (kept s net v t) }
 
   pub writer-gives : (room : ℕ) (file : List ℕ) → writing s room ≡ done file → Gives s room file
-  unfolding writing
+  unfolding writing given
   writer-gives room file e =
       accepted (load (encodeNetwork s)) _ _ e λ net r e₁. required (leb (length (encodeNetwork s)) room) ShortBuffer 0 _ _ e₁ λ t e₂.
       subst (Gives s room) (done-same e₂) (gives room net r (leb-true (length (encodeNetwork s)) room t))
@@ -60,7 +60,7 @@ front : (out file : List ℕ) → length file ≤ length out → take (length fi
 front out file h = ap (take (length file)) (sets-eq file out 0 (omega arith)) ∙ take-append-seam file _
 
 writing-honest : (s : Network) (room : ℕ) → Honest (writing s room)
-unfolding writing
+unfolding writing given
 writing-honest s room =
     honest-then _ _ (honest-load (encodeNetwork s)) λ net.
     honest-then _ _ (honest-require (leb (length (encodeNetwork s)) room) ShortBuffer 0 (omega arith)) λ ok.
@@ -69,5 +69,5 @@ writing-honest s room =
 -- reply 0: there are bytes to write, and they are written
 pub writer-done : {P : Type 0} (s : Network) (out : List ℕ) → wrote s out .answer .reply ≡ Done
     → ((file : List ℕ) → writing s (length out) ≡ done file → (length file ≤ length out → writtenTo s out ≡ file) → P) → P
-unfolding wrote wroteTo
+unfolding wrote wroteTo toldOf filledBy
 writer-done s out e k = done-means (writing s (length out)) (writing-honest s (length out)) e λ file w. k file w (λ h. rw w (front out file h))

@@ -100,7 +100,7 @@ module _ (n : ℕ) (pairs : List Pair) (a b : ℕ) where
   unfolding goodPair
   true-pair h l d e = rw (true-apart h l d, e)
 
-  ends-true : goodEnds n pairs a b ≡ true → ((a < n) × (b < n) × (a ≢ b)) × ((isPair pairs a b ≡ true) ⊎ (isPair pairs b a ≡ true))
+  pub ends-true : goodEnds n pairs a b ≡ true → ((a < n) × (b < n) × (a ≢ b)) × ((isPair pairs a b ≡ true) ⊎ (isPair pairs b a ≡ true))
   unfolding goodEnds
   ends-true e =
       let (t, u) = both (apart n a b) (isPair pairs a b || isPair pairs b a) e in

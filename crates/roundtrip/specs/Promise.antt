@@ -13,7 +13,7 @@ use Rattle.reply.specs.declared.Reply.the-variants.{Done}
 use Rattle.number.specs.Stands.{Bytes}
 use Rattle.network.specs.Net.{Net, noFour, fill, within}
 use Rattle.network.specs.Read.{load, readFile}
-use Rattle.network.specs.Write.{encodeNetwork, writing, wrote, wroteTo}
+use Rattle.network.specs.Write.{encodeNetwork, given, writing, toldOf, filledBy, wrote, wroteTo}
 use Rattle.network.specs.Valid.{Valid}
 use Rattle.network.specs.declared.Network.{Network}
 use Rattle.roundtrip.specs.Actions.{Small, good-small}
@@ -77,7 +77,7 @@ module _ (file : List ℕ) (bytes : Bytes file) (net : Net) where
 
   -- the writer gives the bytes of the file, where there is room for them
   pub rewritten : (room : ℕ) → load file ≡ done net → length file ≤ room → writing (fill net) room ≡ done file
-  unfolding writing
+  unfolding writing given
   rewritten room e h = rw (write-after-read e, e, le-leb (length file) room h)
 
 -- ---- the calls
@@ -94,7 +94,7 @@ done-read file e = read-done file e
 pub read-then-written : (file : List ℕ) → Bytes file → readFile file .answer .reply ≡ Done → (out : List ℕ) → length file ≤ length out
     → (wrote (readFile file .network) out ≡ record { answer = record { reply = Done; place = 0 }; length = length file })
     × (wroteTo (readFile file .network) out ≡ sets out 0 file)
-unfolding wrote wroteTo
+unfolding wrote wroteTo toldOf filledBy
 read-then-written file bytes e out room =
     let (net, l, f) = done-read file e in
     let w : writing (readFile file .network) (length out) ≡ done file = rw f (rewritten file bytes net (length out) l room) in

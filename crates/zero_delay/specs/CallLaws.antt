@@ -4,7 +4,7 @@ use mathlib.Core.Path.{_≡_, refl, sym, ap, subst, _∙_}
 use mathlib.Core.List.{List, map}
 use native.Mathlib.Nat.{mul-le-mul}
 use native.Mathlib.Omega.{arith}
-use lib.ListN.{length, getD, replicate}
+use lib.ListN.{length, replicate}
 use lib.Seq.{sets}
 use borrow.Author.Tests.{le-leb, lt-leb}
 use Rattle.reply.specs.Result.{Result, done, refused, andThen, answerOf}
@@ -13,16 +13,14 @@ use Rattle.reply.specs.Reply.{replyNumber}
 use Rattle.reply.specs.declared.Answer.{Answer}
 use Rattle.reply.specs.declared.Reply.{Reply}
 use Rattle.reply.specs.declared.Reply.the-variants.{Done, OutOfRange, ShortBuffer}
-use Rattle.network.specs.ListLaws.{fill-at}
-use Rattle.network.specs.Net.{fill, within}
-use Rattle.roundtrip.specs.Promise.{within-fill}
+use Rattle.network.specs.Net.{fill}
 use Rattle.graph.specs.Sequence.{noJob}
 use Rattle.graph.specs.Work.{Work, workOf, loadWork, jobCountOf, processOf}
 use Rattle.graph.specs.WorkLaws.{work-net}
-use Rattle.graph.specs.Graph.{framedOf, frameFile}
-use Rattle.graph.specs.FileLaws.{honest-work}
+use Rattle.graph.specs.Graph.{frameFile}
+use Rattle.graph.specs.FrameOf.{FrameOf, workIn, network-is, count-is, job-is, work-is, jobs-is, few-jobs, file-accepted, file-refused}
 use Rattle.graph.specs.Columns.{Column}
-use Rattle.graph.specs.Promise.{jobs-are, file-work}
+use Rattle.graph.specs.Promise.{jobs-are}
 use Rattle.graph.specs.declared.Job.{Job}
 use Rattle.graph.specs.declared.Framed.{Framed}
 use Rattle.machine.specs.State.{State}
@@ -37,39 +35,24 @@ use Rattle.machine.specs.TableLaws.{kinds-are, capacities-are, programs-are, co
 use Rattle.zero_delay.specs.declared.Ran.{Ran}
 use Rattle.zero_delay.specs.ZeroDelay.{Sofar, ranJobs, runWork, zeroDelay, processIn, jobsDone, ranOf, filledBy}
 use Rattle.zero_delay.specs.Lent.{TablesOf, Ready, FramesReady, FramesDone}
-use Rattle.zero_delay.specs.Calls.{refusedWith, FrameOf, workIn, Admitted}
+use Rattle.zero_delay.specs.Calls.{refusedWith, Admitted}
 
 module _ {framed : Framed} (frame : FrameOf framed) where
-  network-is : framed .network ≡ fill (frame .net)
-  network-is = ap (λ (x : Framed). x .network) (frame .is) ∙ ap fill (work-net (frame .net))
-
-  pub count-is : framed .«job_count» ≡ jobCountOf (workOf (frame .net))
-  count-is = ap (λ (x : Framed). x .«job_count») (frame .is)
-
-  job-is : (j : ℕ) → getD (framed .jobs) j noJob ≡ getD (workOf (frame .net) .jobs) j noJob
-  job-is j = ap (λ (x : Framed). getD (x .jobs) j noJob) (frame .is) ∙ fill-at 128 noJob (workOf (frame .net) .jobs) j
-
-  pub work-is : workIn framed ≡ workOf (frame .net)
-  work-is = ap (λ n. workOf (within n)) network-is ∙ ap workOf (within-fill (frame .net) (frame .valid))
-
   -- every job's process has a program
   has-program : (j : ℕ) → j < framed .«job_count» → processOf (workOf (frame .net)) j < length (frame .net .programs)
-  has-program j h = omega (arith, frame .valid .programs, jobs-are (frame .net) (frame .valid) .each j (omega (arith, count-is)) .process)
+  has-program j h = omega (arith, frame .valid .programs, jobs-are (frame .net) (frame .valid) .each j (omega (arith, count-is frame)) .process)
 
-  pub few-jobs : framed .«job_count» ≤ 128
-  few-jobs = omega (arith, count-is, jobs-are (frame .net) (frame .valid) .most)
-
-  module _ {kinds processes : List ℕ} (kinded : KindsTold (framed .network .channels) kinds) (told : Column (λ (j : Job). j .process) (framed .jobs) processes) where
+  module _ {kinds processes : List ℕ} (kinded : KindsTold (framed .network .channels) kinds) (told : Column noJob (λ (j : Job). j .process) (framed .jobs) processes) where
     kinded-net : KindsTold (fill (frame .net) .channels) kinds
-    kinded-net = rw network-is at kinded
+    kinded-net = rw (network-is frame) at kinded
 
     pub tables : TablesOf (workOf (frame .net)) (framed .network .actions) (framed .network .«action_counts») kinds processes (framed .«job_count»)
     tables = record {
-      count = sym count-is;
-      process = λ j h. told .each j (omega (arith, few-jobs)) ∙ ap (λ (x : Job). x .process) (job-is j);
+      count = sym (count-is frame);
+      process = λ j h. told .each j (omega (arith, few-jobs frame)) ∙ ap (λ (x : Job). x .process) (job-is frame j);
       program-is = λ j h.
           let p : ℕ = processOf (workOf (frame .net)) j in
-          rw (work-net (frame .net), network-is, counts-are (frame .net) (frame .valid) p (has-program j h)) (programs-are (frame .net) (frame .valid) p (has-program j h));
+          rw (work-net (frame .net), network-is frame, counts-are (frame .net) (frame .valid) p (has-program j h)) (programs-are (frame .net) (frame .valid) p (has-program j h));
       kinds-are = rw (work-net (frame .net)) (kinds-are (frame .net) (frame .valid) kinds kinded-net);
     }
 
@@ -79,10 +62,10 @@ module _ {framed : Framed} (frame : FrameOf framed) where
       tables = tables;
       runnable = λ j h.
           let p : ℕ = processOf (workOf (frame .net)) j in
-          rw (network-is, counts-are (frame .net) (frame .valid) p (has-program j h)) (runnable-are (frame .net) (frame .valid) p (has-program j h));
+          rw (network-is frame, counts-are (frame .net) (frame .valid) p (has-program j h)) (runnable-are (frame .net) (frame .valid) p (has-program j h));
       capacities = capacities-are (frame .net) (frame .valid) kinds kinded-net;
       short = rw (work-net (frame .net)) (valid-short (frame .net) (frame .valid));
-      few = few-jobs;
+      few = few-jobs frame;
     }
 
     -- after the frames, variables, words and output are those of the run
@@ -93,7 +76,7 @@ module _ {framed : Framed} (frame : FrameOf framed) where
 
       ran-is : jobsDone (workOf (frame .net) .net) (processIn (workOf (frame .net))) input (stateBy (replicate 96 0) noWords) (framed .«job_count» * frames) ≡ ran
       unfolding ranJobs
-      ran-is = rw (work-is, count-is, start-state) refl
+      ran-is = rw (work-is frame, count-is frame, start-state) refl
 
       state-is : stateBy variables′ words′ ≡ ran .state
       state-is = did .state (workOf (frame .net)) tables ∙ ap (λ (r : Sofar). r .state) ran-is
@@ -141,25 +124,22 @@ module _ (w : Work) (frames : ℕ) (input output : List ℕ) where
 
 -- the same of a frame
 module _ {framed : Framed} (frame : FrameOf framed) (frames : ℕ) (input output : List ℕ) where
-  jobs-is : framed .«job_count» ≡ jobCountOf (workIn framed)
-  jobs-is = count-is frame ∙ sym (ap jobCountOf (work-is frame))
-
   pub frame-short-input : length input < 2 * (framed .«job_count» * frames) → runWork (workIn framed) frames input output ≡ refused ShortBuffer 0
-  frame-short-input h = short-input _ frames input output (subst (λ J. length input < 2 * (J * frames)) jobs-is h)
+  frame-short-input h = short-input _ frames input output (subst (λ J. length input < 2 * (J * frames)) (jobs-is frame) h)
 
   module _ (there : 2 * (framed .«job_count» * frames) ≤ length input) where
     there-is : 2 * (jobCountOf (workIn framed) * frames) ≤ length input
-    there-is = subst (λ J. 2 * (J * frames) ≤ length input) jobs-is there
+    there-is = subst (λ J. 2 * (J * frames) ≤ length input) (jobs-is frame) there
 
     pub frame-short-output : length output < 2 * (framed .«job_count» * frames) → runWork (workIn framed) frames input output ≡ refused ShortBuffer 0
-    frame-short-output h = short-output _ frames input output there-is (subst (λ J. length output < 2 * (J * frames)) jobs-is h)
+    frame-short-output h = short-output _ frames input output there-is (subst (λ J. length output < 2 * (J * frames)) (jobs-is frame) h)
 
     module _ (room : 2 * (framed .«job_count» * frames) ≤ length output) {judged : Answer} (told : judged ≡ answerOf (okSamples (framed .«job_count» * frames) input)) where
       room-is : 2 * (jobCountOf (workIn framed) * frames) ≤ length output
-      room-is = subst (λ J. 2 * (J * frames) ≤ length output) jobs-is room
+      room-is = subst (λ J. 2 * (J * frames) ≤ length output) (jobs-is frame) room
 
       judged-is : judged ≡ answerOf (okSamples (jobCountOf (workIn framed) * frames) input)
-      judged-is = told ∙ ap (λ (J : ℕ). answerOf (okSamples (J * frames) input)) jobs-is
+      judged-is = told ∙ ap (λ (J : ℕ). answerOf (okSamples (J * frames) input)) (jobs-is frame)
 
       pub frame-bad-sample : (replyNumber (judged .reply) ≡ 0 → ⊥)
           → runWork (workIn framed) frames input output ≡ refused (judged .reply) (judged .place)
@@ -191,24 +171,6 @@ same-filled output e f = f ∙ ap (λ (r : Result Sofar). filledBy r output) (sy
 
 -- ---- the cases of the call
 
--- an accepted file has a frame
-module _ (file : List ℕ) {framed : Framed} (told : framed ≡ frameFile file) where
-  answer-is : framed .answer ≡ answerOf (loadWork file)
-  unfolding frameFile
-  answer-is = ap (λ (x : Framed). x .answer) told
-
-  -- its network, and the work of the file
-  accepted-as : replyNumber (framed .answer .reply) ≡ 0 → {P : Type 0} → ((frame : FrameOf framed) → loadWork file ≡ done (workOf (frame .net)) → P) → P
-  unfolding frameFile
-  accepted-as zero k =
-      zero-means (loadWork file) (honest-work file) (rw answer-is at zero) λ w e.
-      let (net, l, valid, is) = file-work file w e in
-      let work : loadWork file ≡ done (workOf net) = e ∙ ap done is in
-      k (record { net = net; valid = valid; is = told ∙ ap framedOf work }) work
-
-  pub file-frame : replyNumber (framed .answer .reply) ≡ 0 → FrameOf framed
-  file-frame zero = accepted-as zero λ frame work. frame
-
 module _ (file : List ℕ) (frames : ℕ) (input output : List ℕ) where
   pub no-frames : frames < 1 → zeroDelay file frames input output ≡ refused OutOfRange 0
   unfolding zeroDelay
@@ -224,12 +186,8 @@ module _ (file : List ℕ) (frames : ℕ) (input output : List ℕ) where
       unfolding zeroDelay
       in-range = rw (le-leb 1 frames some, le-leb frames 100 few)
 
-      pub file-refused : (replyNumber (framed .answer .reply) ≡ 0 → ⊥) → zeroDelay file frames input output ≡ refused (framed .answer .reply) (framed .answer .place)
-      file-refused other =
-          other-means (loadWork file) (λ z. other (rw (answer-is file told) z)) λ reply place e.
-          rw (answer-is file told, e) (in-range ∙ rw e)
+      pub frame-refused : (replyNumber (framed .answer .reply) ≡ 0 → ⊥) → zeroDelay file frames input output ≡ refused (framed .answer .reply) (framed .answer .place)
+      frame-refused other = in-range ∙ file-refused file told _ other
 
-      pub file-run : replyNumber (framed .answer .reply) ≡ 0 → zeroDelay file frames input output ≡ runWork (workIn framed) frames input output
-      file-run zero =
-          accepted-as file told zero λ frame work.
-          in-range ∙ rw work (ap (λ (w : Work). runWork w frames input output) (sym (work-is frame)))
+      pub frame-run : replyNumber (framed .answer .reply) ≡ 0 → zeroDelay file frames input output ≡ runWork (workIn framed) frames input output
+      frame-run zero = in-range ∙ file-accepted file told _ zero

@@ -1,5 +1,5 @@
 // The zero-delay run: the jobs of a network one after another in sequence, frame after frame.
-mod empty;
+pub mod empty;
 mod frames;
 
 use graph::Framed;
@@ -14,8 +14,9 @@ ghost use mathlib.Core.Path.{_≡_};
 ghost use Prim.Native.Nat.{_*_, _≤_};
 ghost use Rattle.reply.specs.Result.{done};
 ghost use Rattle.graph.specs.Work.{jobCountOf};
+ghost use Rattle.graph.specs.FrameOf.{FrameOf, workIn};
 ghost use Rattle.zero_delay.specs.ZeroDelay.{ranJobs, runWork, zeroDelay, ranOf, filledBy};
-ghost use Rattle.zero_delay.specs.Calls.{refusedWith, FrameOf, workIn, Admitted};
+ghost use Rattle.zero_delay.specs.Calls.{refusedWith, Admitted};
 
 // What the run returns, all zero when it is refused: the variables, eight for each process, and what the channels hold.
 pub struct Ran {

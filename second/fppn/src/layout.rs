@@ -104,3 +104,26 @@ pub struct Ran {
     pub variables: [u32; VARIABLE_WORDS],
     pub channels: [Held; CHANNELS],
 }
+
+/// What the planner, the checker and the timed run return.
+#[repr(C)]
+#[derive(Clone, Copy, Debug, PartialEq, Eq)]
+pub struct Answer {
+    pub reply: u32,
+    pub place: usize,
+}
+
+/// What the turn run returns: frames finished, jobs finished in the present frame, turns that
+/// worked and turns that waited, and what the run leaves.
+#[repr(C)]
+#[derive(Clone, Copy, Debug, PartialEq, Eq)]
+pub struct Turned {
+    pub reply: u32,
+    pub place: usize,
+    pub frames: usize,
+    pub jobs: usize,
+    pub working: usize,
+    pub waiting: usize,
+    pub variables: [u32; VARIABLE_WORDS],
+    pub channels: [Held; CHANNELS],
+}

@@ -4,8 +4,8 @@
 mod calls;
 mod layout;
 
-pub use calls::{graph, read, write, zero_delay};
+pub use calls::{check, graph, plan, read, timed, turns, write, zero_delay, Turns};
 pub use layout::{
-    Channel, GraphResult, Held, Loaded, Network, Pair, Process, Ran, Written, ACTION_WORDS,
-    CHANNELS, JOBS, PAIRS, PROCESSES, VARIABLE_WORDS,
+    Answer, Channel, GraphResult, Held, Loaded, Network, Pair, Process, Ran, Turned, Written,
+    ACTION_WORDS, CHANNELS, JOBS, PAIRS, PROCESSES, VARIABLE_WORDS,
 };

@@ -6,14 +6,20 @@
 use std::hint::black_box;
 use std::time::{Duration, Instant};
 
-use second::generate::{file, networks, programs::Style, random::Random, runs};
+use second::generate::{
+    durations, feasible, file, networks, programs::Style, random::Random, runs, turns,
+};
 use second::network::Network;
-use second::{as_library, frame, graph, read, write, zero_delay};
+use second::plan::Task;
+use second::timed::run_timed;
+use second::turns::run_turns;
+use second::{as_library, frame, graph, plan, read, write, zero_delay};
 
 const ROUNDS: usize = 25;
 /// How long one timing lasts, about.
 const ROUND: Duration = Duration::from_millis(8);
 const FRAMES: u32 = 100;
+const PROCESSORS: u32 = 4;
 
 fn main() {
     println!(
@@ -33,6 +39,43 @@ fn main() {
         let network = networks::full(&mut random, style);
         let input = runs::samples(&mut random, 2 * frame::JOBS * FRAMES as usize);
         bench_run(name, &network, &input);
+    }
+    let related = plannable(&mut random, |random| networks::full(random, Style::Mixed));
+    let few = plannable(&mut random, few_pairs);
+    bench_planner("plan, 128 jobs, all related", &related);
+    bench_planner("plan, 128 jobs, few pairs", &few);
+    bench_checker("check, 128 jobs, all related", &related);
+    bench_checker("check, 128 jobs, few pairs", &few);
+    for (planned, pairs) in [(&related, "all related"), (&few, "few pairs")] {
+        let words = planned.plan.len() * FRAMES as usize;
+        let run = runs::Run {
+            frames: FRAMES,
+            input: runs::samples(&mut random, words),
+            output_length: words,
+        };
+        bench_turns(&format!("turns 128 x 100, {pairs}"), planned, &run, true);
+        let name = format!("turns 128 x 100, {pairs}, waits");
+        bench_turns(&name, planned, &run, false);
+    }
+    for (planned, pairs) in [(&related, "all related"), (&few, "few pairs")] {
+        bench_timed(&format!("timed, 128 jobs, {pairs}"), planned, &mut random);
+    }
+}
+
+/// A file with a plan for four processors.
+struct Planned {
+    file: Vec<u8>,
+    plan: Vec<u32>,
+}
+
+/// The first of such networks that the planner plans.
+fn plannable(random: &mut Random, mut network: impl FnMut(&mut Random) -> Network) -> Planned {
+    loop {
+        let file = file::of(&network(random));
+        let task = Task::of(&file, PROCESSORS).expect("the network is sound");
+        if let Some(plan) = feasible::planned(&file, &task, PROCESSORS) {
+            return Planned { file, plan };
+        }
     }
 }
 
@@ -93,6 +136,78 @@ fn bench_run(name: &str, network: &Network, input: &[u32]) {
                 black_box(&file),
                 FRAMES,
                 black_box(input),
+                out,
+            ))
+        },
+    );
+}
+
+fn bench_planner(name: &str, planned: &Planned) {
+    let file = &planned.file;
+    bench(
+        name,
+        &mut vec![0u32; planned.plan.len()],
+        |out| _ = black_box(fppn::plan(black_box(file), PROCESSORS, out)),
+        |out| _ = black_box(plan::plan(black_box(file), PROCESSORS, out)),
+    );
+}
+
+fn bench_checker(name: &str, planned: &Planned) {
+    let Planned { file, plan } = planned;
+    bench(
+        name,
+        &mut [0u32; 0],
+        |_| _ = black_box(fppn::check(black_box(file), PROCESSORS, black_box(plan))),
+        |_| _ = black_box(plan::check(black_box(file), PROCESSORS, black_box(plan))),
+    );
+}
+
+/// Turns that go round until the run has finished; those that would wait are left out of a busy
+/// list.
+fn bench_turns(name: &str, planned: &Planned, run: &runs::Run, busy: bool) {
+    let Planned { file, plan } = planned;
+    let task = Task::of(file, PROCESSORS).expect("the network is sound");
+    let round = |last| (last + 1) % PROCESSORS;
+    let turns = turns::finishing(&task, plan, run, busy, round);
+    let asked = fppn::Turns {
+        file,
+        processors: PROCESSORS,
+        frames: FRAMES,
+        plan,
+        input: &run.input,
+        turns: &turns,
+    };
+    let request = as_library::request(&asked);
+    bench(
+        name,
+        &mut vec![0u32; run.output_length],
+        |out| _ = black_box(fppn::turns(black_box(&asked), out)),
+        |out| _ = black_box(run_turns(black_box(&request), out)),
+    );
+}
+
+fn bench_timed(name: &str, planned: &Planned, random: &mut Random) {
+    let Planned { file, plan } = planned;
+    let task = Task::of(file, PROCESSORS).expect("the network is sound");
+    let durations = durations::sound(random, &task);
+    bench(
+        name,
+        &mut vec![0u32; plan.len()],
+        |out| {
+            _ = black_box(fppn::timed(
+                black_box(file),
+                PROCESSORS,
+                black_box(plan),
+                black_box(&durations),
+                out,
+            ))
+        },
+        |out| {
+            _ = black_box(run_timed(
+                black_box(file),
+                PROCESSORS,
+                black_box(plan),
+                black_box(&durations),
                 out,
             ))
         },

@@ -69,10 +69,11 @@ fn report(seed: u64, number: u64, case: &Case, outcomes: &[Outcome]) {
         case.run.input.len(),
         case.run.output_length
     );
-    for outcome in outcomes
+    report_plans(case);
+    let different = outcomes
         .iter()
-        .filter(|outcome| !outcome.different.is_empty())
-    {
+        .filter(|outcome| !outcome.different.is_empty());
+    for outcome in different {
         println!(
             "{}: {} words differ",
             outcome.call.name(),
@@ -85,6 +86,18 @@ fn report(seed: u64, number: u64, case: &Case, outcomes: &[Outcome]) {
             println!("  the fields written: {:?}", case.network);
         }
     }
+}
+
+/// Prints what the calls about plans were given.
+fn report_plans(case: &Case) {
+    println!("file with plans: {}", case.subject.kind);
+    println!("  {}", hex(&case.subject.file));
+    println!("  {:?}", case.wanted);
+    for given in &case.given {
+        println!("  {given:?}");
+    }
+    println!("  {:?}", case.turn_run);
+    println!("  {:?}", case.timed_run);
 }
 
 fn hex(bytes: &[u8]) -> String {

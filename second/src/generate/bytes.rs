@@ -7,8 +7,8 @@ type Damage = fn(&mut Random, &mut Vec<u8>);
 
 /// All kinds of damage with their names; some stand here more than once to be met more often.
 const DAMAGES: [(&str, Damage); 14] = [
-    ("bits flipped", flip),
-    ("bits flipped", flip),
+    ("bits flipped", |random, file| flip(random, file)),
+    ("bits flipped", |random, file| flip(random, file)),
     ("cut", cut),
     ("cut", cut),
     ("cut in or after a number", cut_at_number),
@@ -87,7 +87,7 @@ fn some_number(random: &mut Random, file: &[u8]) -> (usize, usize) {
     (first, ends[number])
 }
 
-fn flip(random: &mut Random, file: &mut Vec<u8>) {
+fn flip(random: &mut Random, file: &mut [u8]) {
     for _ in 0..random.within(1, 3) {
         let place = random.below(file.len());
         file[place] ^= 1 << random.below(8);
@@ -109,7 +109,7 @@ fn cut_at_number(random: &mut Random, file: &mut Vec<u8>) {
 
 fn insert(random: &mut Random, file: &mut Vec<u8>) {
     let place = random.below(file.len() + 1);
-    file.insert(place, random.next() as u8);
+    file.insert(place, random.bits() as u8);
 }
 
 fn remove(random: &mut Random, file: &mut Vec<u8>) {
@@ -159,7 +159,7 @@ fn version(random: &mut Random, file: &mut Vec<u8>) {
 
 fn any_bytes(random: &mut Random, file: &mut Vec<u8>) {
     let length = random.pick(&[0, 0, 1, 2, 3, 10, 100, 2600, 4096]);
-    *file = (0..length).map(|_| random.next() as u8).collect();
+    *file = (0..length).map(|_| random.bits() as u8).collect();
     if length > 2 && random.chance(70) {
         file[0] = 1;
         file[1] = random.within(1, 12) as u8;

@@ -32,12 +32,12 @@ impl Random {
     /// The generator of one case, apart from those of the cases beside it.
     pub fn of_case(seed: u64, number: u64) -> Self {
         let mut outer = Random::new(seed);
-        let mut inner = Random::new(outer.next().wrapping_add(number));
-        Random::new(inner.next())
+        let mut inner = Random::new(outer.bits().wrapping_add(number));
+        Random::new(inner.bits())
     }
 
     /// The next 64 random bits.
-    pub fn next(&mut self) -> u64 {
+    pub fn bits(&mut self) -> u64 {
         self.state = self.state.wrapping_add(0x9E37_79B9_7F4A_7C15);
         let mut mixed = self.state;
         mixed = (mixed ^ (mixed >> 30)).wrapping_mul(0xBF58_476D_1CE4_E5B9);
@@ -47,7 +47,7 @@ impl Random {
 
     /// A number below `bound`, which is not 0.
     pub fn below(&mut self, bound: usize) -> usize {
-        (self.next() % bound as u64) as usize
+        (self.bits() % bound as u64) as usize
     }
 
     /// A number from `least` to `most`, both included.
@@ -86,8 +86,8 @@ impl Random {
         match self.below(4) {
             0 => self.pick(&EDGES),
             1 => self.within(0, 20),
-            2 => (self.next() as u32) >> self.below(32),
-            _ => self.next() as u32,
+            2 => (self.bits() as u32) >> self.below(32),
+            _ => self.bits() as u32,
         }
     }
 

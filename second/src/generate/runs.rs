@@ -14,6 +14,11 @@ pub struct Run {
 /// A run of a network with so many jobs.
 pub fn any(random: &mut Random, jobs: usize) -> Run {
     let frames = frames(random);
+    of_frames(random, jobs, frames)
+}
+
+/// A run of so many frames, of a network with so many jobs.
+pub fn of_frames(random: &mut Random, jobs: usize, frames: u32) -> Run {
     let counted = if FRAMES.contains(&frames) {
         frames
     } else {
@@ -24,11 +29,7 @@ pub fn any(random: &mut Random, jobs: usize) -> Run {
     if words > 0 && random.chance(13) {
         spoil(random, &mut input);
     }
-    let input_length = length(random, words);
-    input.truncate(input_length);
-    while input.len() < input_length {
-        input.push(random.word());
-    }
+    lend(random, &mut input);
     Run {
         frames,
         input,
@@ -49,8 +50,17 @@ fn frames(random: &mut Random) -> u32 {
     }
 }
 
+/// Words to lend where these are wanted: the same, fewer, or more with anything beyond.
+pub fn lend(random: &mut Random, words: &mut Vec<u32>) {
+    let length = length(random, words.len());
+    words.truncate(length);
+    while words.len() < length {
+        words.push(random.word());
+    }
+}
+
 /// A length for lent memory of which so many words are wanted.
-fn length(random: &mut Random, words: usize) -> usize {
+pub fn length(random: &mut Random, words: usize) -> usize {
     match random.below(100) {
         0..=59 => words,
         60..=63 => words.saturating_sub(1),

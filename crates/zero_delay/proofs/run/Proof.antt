@@ -1,7 +1,8 @@
 -- `run` meets its contract: 4 for the frames, the file's own reply, or the run.
 use borrow.Author.Needs.{needs}
 use mathlib.Core.Path.{sym, _∙_}
-use Rattle.zero_delay.specs.CallLaws.{no-frames, many-frames, file-refused, file-frame, file-run, refused-ran, refused-filled, same-ran, same-filled}
+use Rattle.graph.specs.FrameOf.{file-frame}
+use Rattle.zero_delay.specs.CallLaws.{no-frames, many-frames, frame-refused, frame-run, refused-ran, refused-filled, same-ran, same-filled}
 use Rattle.zero_delay.proofs.run.Statement.{statement}
 use Rattle.zero_delay.proofs.run.Tie as tie
 
@@ -28,7 +29,7 @@ run-returns c =
     let good = ran .before .before in
     let framed = good .before .before .before in
     let few = framed .before in
-    let e = file-run _ _ _ _ (few .before .if1 .left) (few .if2 .left) (framed .frame .ensures) (sym (good .before .number .ensures) ∙ good .if3 .taken) in
+    let e = frame-run _ _ _ _ (few .before .if1 .left) (few .if2 .left) (framed .frame .ensures) (sym (good .before .number .ensures) ∙ good .if3 .taken) in
     (same-ran e (ran .run-framed .ensures .0), same-filled (few .before .before .before .before .before .args .output .now) e (ran .run-framed .ensures .1))
 
 refused-returns : tie.Need-returns-4
@@ -36,7 +37,7 @@ refused-returns c =
     let bad = c .before in
     let framed = bad .before .before .before in
     let few = framed .before in
-    let e = file-refused _ _ _ _ (few .before .if1 .left) (few .if2 .left) (framed .frame .ensures) (λ z. bad .if3 .left (bad .before .number .ensures ∙ z)) in
+    let e = frame-refused _ _ _ _ (few .before .if1 .left) (few .if2 .left) (framed .frame .ensures) (λ z. bad .if3 .left (bad .before .number .ensures ∙ z)) in
     (c .refused3 .ensures ∙ refused-ran e, refused-filled _ e)
 
 pub run-spec : {M : Type 1} → statement M

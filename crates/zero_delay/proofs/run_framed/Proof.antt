@@ -3,7 +3,8 @@ use borrow.Author.Needs.{needs}
 use native.Mathlib.Nat.{mul-le-mul}
 use native.Mathlib.Omega.{arith}
 use mathlib.Core.Path.{sym, _∙_}
-use Rattle.zero_delay.specs.CallLaws.{few-jobs, frame-short-input, frame-short-output, frame-bad-sample, frame-good-samples, refused-ran, refused-filled, same-ran, same-filled}
+use Rattle.graph.specs.FrameOf.{few-jobs}
+use Rattle.zero_delay.specs.CallLaws.{frame-short-input, frame-short-output, frame-bad-sample, frame-good-samples, refused-ran, refused-filled, same-ran, same-filled}
 use Rattle.zero_delay.proofs.run_framed.Statement.{statement}
 use Rattle.zero_delay.proofs.run_framed.Tie as tie
 

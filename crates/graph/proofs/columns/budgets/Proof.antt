@@ -1,13 +1,14 @@
 -- `columns::budgets` meets its contract.
 use borrow.Author.Needs.{needs}
 use Prim.Native.Nat.{_-_}
+use Rattle.graph.specs.Sequence.{noJob}
 use Rattle.graph.specs.declared.Job.{Job}
 use Rattle.graph.proofs.ColumnLoop.{Telling, start, turn, finish}
 use Rattle.graph.proofs.columns.budgets.Statement.{statement}
 use Rattle.graph.proofs.columns.budgets.Tie as tie
 
 abbrev Inv-loop : tie.InvT-loop
-Inv-loop jobs column₀ j₀ column j = Telling (λ (x : Job). x .budget) jobs column j
+Inv-loop jobs column₀ j₀ column j = Telling noJob (λ (x : Job). x .budget) jobs column j
 
 abbrev μ-loop : tie.MeasureT-loop
 μ-loop jobs column₀ j₀ column j = 128 - j

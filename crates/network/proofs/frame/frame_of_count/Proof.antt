@@ -2,7 +2,7 @@
 use borrow.Author.Needs.{needs}
 use mathlib.Core.Path.{ap, _∙_}
 use Rattle.network.specs.Frame.{frameLength}
-use Rattle.network.proofs.Laying.{take-lesser}
+use Rattle.network.specs.ListLaws.{take-lesser}
 use Rattle.network.proofs.frame.frame_of_count.Statement.{statement}
 use Rattle.network.proofs.frame.frame_of_count.Tie as tie
 

@@ -4,7 +4,8 @@ use native.Mathlib.Omega.{arith}
 use mathlib.Core.Path.{_≡_, refl, sym, _∙_}
 use Prim.Native.Nat.{_≤_, _<_, _-_}
 use lib.ListN.{length, take}
-use Rattle.network.proofs.ActionLoop.{ActionsSoFar, actions-start, actions-step, actions-bad, actions-not, actions-end, four-got, four-not, named-at, place-fits}
+use Rattle.network.specs.NamedLaws.{named-at, place-fits}
+use Rattle.network.proofs.ActionLoop.{ActionsSoFar, actions-start, actions-step, actions-bad, actions-not, actions-end, four-got, four-not}
 use Rattle.network.proofs.programs.read_actions.Statement.{statement}
 use Rattle.network.proofs.programs.read_actions.Tie as tie
 

@@ -1,0 +1,6 @@
+mod Laying
+mod EntryPoint
+mod Judging
+mod Ends
+mod Actions
+mod Whole
