@@ -9,7 +9,7 @@ mod variables;
 mod words;
 
 ghost use Rattle.machine.specs.Acting.{Able, Acted};
-ghost use Rattle.machine.specs.Jobs.{Runs, JobDone};
+ghost use Rattle.machine.specs.Jobs.{Runs, JobDone, Goes, Went};
 
 // One action. Operands name variables 0 to 7 of the process, a channel, a number, or how many actions to skip.
 pub enum Action {
@@ -102,6 +102,28 @@ pub fn act(
     Under { at, output }
 }
 
+// A job of process p goes on, action after action, until its place is `until` or later: a whole job from its start, or one action of a job under way.
+pub fn go_on(
+    program: &[u32; 1152],
+    p: usize,
+    until: usize,
+    from: Under,
+    input: Sample,
+    kinds: &[u32; 32],
+    variables: &mut [u32; 96],
+    words: &mut [u32; 192],
+) -> Under
+    requires { ⌜ Goes (now program) p until from (now kinds) (now words) ⌝ }
+    ensures { λ r. ⌜ Went (now (program .entry)) p until from input (now (kinds .entry)) (now (variables .entry)) (now (words .entry)) (now (variables .exit)) (now (words .exit)) r ⌝ }
+{
+    let mut under = from;
+    while under.at < until {
+        let action = actions::fetch(program, p, under.at);
+        under = act(action, p, under, input, kinds, variables, words);
+    }
+    under
+}
+
 // A whole job of process p, whose program has so many actions: what it outputs.
 pub fn job(
     program: &[u32; 1152],
@@ -115,16 +137,13 @@ pub fn job(
     requires { ⌜ Runs (now program) p count (now kinds) (now words) ⌝ }
     ensures { λ r. ⌜ JobDone (now (program .entry)) p count input (now (kinds .entry)) (now (variables .entry)) (now (words .entry)) (now (variables .exit)) (now (words .exit)) r ⌝ }
 {
-    let mut under = Under {
+    let start = Under {
         at: 0,
         output: Sample {
             present: 0,
             value: 0,
         },
     };
-    while under.at < count {
-        let action = actions::fetch(program, p, under.at);
-        under = act(action, p, under, input, kinds, variables, words);
-    }
+    let under = go_on(program, p, count, start, input, kinds, variables, words);
     under.output
 }

@@ -1,7 +1,7 @@
 -- A turn of the code is a turn of the definition: nothing is left, the job under way does one action, the next job starts, or it is not ready.
 use Prim.Native.Nat.{ℕ, suc, _+_, _-_, _*_, _≤_, _<_}
 use mathlib.Core.Path.{_≡_, refl, sym, ap, ap₂, subst, _∙_}
-use mathlib.Core.Logic.{_≢_}
+use mathlib.Core.Logic.{_≢_, inr}
 use mathlib.Core.Bool.{true, false}
 use mathlib.Core.List.{List}
 use native.Mathlib.Omega.{arith}
@@ -20,7 +20,8 @@ use Rattle.machine.specs.WholeJob.{programOf, started, nextAction, actState, ac
 use Rattle.machine.specs.Ledger.{action-loss}
 use Rattle.machine.specs.Samples.{sampleAt, sampleWords}
 use Rattle.machine.specs.Words.{stateBy}
-use Rattle.machine.specs.Acting.{Operands, Able, Acted}
+use Rattle.machine.specs.Acting.{Operands, Acted}
+use Rattle.machine.specs.Jobs.{Goes}
 use Rattle.machine.specs.declared.Action.{Action}
 use Rattle.machine.specs.declared.Sample.{Sample}
 use Rattle.machine.specs.declared.Under.{Under}
@@ -165,7 +166,10 @@ module _ {program counts kinds processes : List ℕ} (before after : List ℕ) {
     }
 
     -- the job under way does one action
-    module _ (b : processor .busy ≡ true) {action : Action} (fetched : action ≡ decode (fourAt program p (processor .under .at))) where
+    module _ (b : processor .busy ≡ true) where
+      abbrev action : Action
+      action = decode (fourAt program p (processor .under .at))
+
       on : processor .under .at < getD counts p 0
       on = needs .under-way b j next
 
@@ -178,18 +182,26 @@ module _ {program counts kinds processes : List ℕ} (before after : List ℕ) {
       count-most : getD counts p 0 ≤ 24
       count-most = rw process-is (needs .ready .runnable j within .most)
 
-      pub able : Able action p (processor .under) kinds words
-      able = record {
-        process = rw process-is (needs .ready .runnable j within .process);
-        at = omega (arith, on, count-most);
-        operands = rw fetched (subst (λ q. Operands (decode (fourAt program q (processor .under .at)))) (sym process-is) (needs .ready .runnable j within .operands (processor .under .at) (rw process-is at on)));
+      pub goes : Goes program p (processor .under .at + 1) (processor .under) kinds words
+      goes = record {
+        net = needs .ready .work .net;
+        kinds-are = needs .ready .tables .kinds-are;
+        runnable = record {
+          process = rw process-is (needs .ready .runnable j within .process);
+          most = omega (arith, on, count-most);
+          operands = λ k l. subst (λ q. Operands (decode (fourAt program q k))) (sym process-is) (needs .ready .runnable j within .operands k (rw process-is at (still k l)));
+        };
         capacities = needs .ready .capacities;
         sound = needs .sound;
-        room = needs .room;
+        room = record { room = λ ch. omega (arith, needs .room .room ch) };
+        how = inr refl;
       }
+        where
+          still : (k : ℕ) → k < processor .under .at + 1 → k < getD counts p 0
+          still k l = omega (arith, on)
 
       module _ {x : Sample} (sampled : x ≡ sampleAt input j) {variables′ words′ : List ℕ} {u : Under}
-          (acted : Acted action p (processor .under) x kinds variables words variables′ words′ u) where
+          (acted : Acted (decode (fourAt program p (processor .under .at))) p (processor .under) x kinds variables words variables′ words′ u) where
         module _ (r : Run) (c : Between) (m : ℕ) (processors : List Processor) (first : List ℕ)
             (stands : Standing r c m processors program counts kinds processes before first after jobs input variables words processor finished) where
           abbrev net : Net
@@ -204,9 +216,9 @@ module _ {program counts kinds processes : List ℕ} (before after : List ℕ) {
           size : length (programOf (r .work .net) (processOf (r .work) j)) ≡ getD counts p 0
           size = stands .tables .tables .program-is j within .size ∙ ap (λ (q : ℕ). getD counts q 0) (sym is-process)
 
-          which : action ≡ nextAction net q (processor .under)
+          which : decode (fourAt program p (processor .under .at)) ≡ nextAction net q (processor .under)
           which =
-              fetched ∙ ap (λ (q : ℕ). decode (fourAt program q (processor .under .at))) is-process
+              ap (λ (q : ℕ). decode (fourAt program q (processor .under .at))) is-process
               ∙ stands .tables .tables .program-is j within .action (processor .under .at) (rw is-process at on)
 
           keeps : u ≡ actUnder net q (processor .under) (stateBy variables words)

@@ -1,7 +1,6 @@
 // One turn of a processor within a frame.
 use machine::Sample;
 use machine::Under;
-use machine::actions;
 use machine::samples;
 use marks::Row;
 ghost use mathlib.Core.Path.{_≡_};
@@ -152,9 +151,9 @@ pub fn turn(
     let then = after[j];
     if processor.busy {
         let under = processor.under;
-        let action = actions::fetch(program, p, under.at);
         let sample = samples::get(input, j);
-        let acted = machine::act(action, p, under, sample, kinds, variables, words);
+        let until = under.at + 1;
+        let acted = machine::go_on(program, p, until, under, sample, kinds, variables, words);
         return comes_to(jobs, j, count, then, acted, finished, output);
     }
     if row(before, j).inside(finished) {

@@ -1,43 +1,26 @@
--- `job` meets its contract: action after action, until the end of the program.
+-- `job` meets its contract: it goes on from its start to the end of the program.
+use borrow.Author.Needs.{needs}
+use mathlib.Core.Path.{refl}
+use mathlib.Core.Logic.{inl}
 use native.Mathlib.Omega.{arith}
-use Prim.Native.Nat.{_-_}
-use Rattle.machine.proofs.JobLoop.{Going, start, able, forward, turn, finish}
 use Rattle.machine.proofs.job.Statement.{statement}
 use Rattle.machine.proofs.job.Tie as tie
 
-abbrev Inv-loop : tie.InvT-loop
-Inv-loop program p count input kinds variables₀ words₀ under₀ variables words under = Going program p count input kinds variables₀ words₀ variables words under
+go-on-requires : tie.Need-go-on-requires
+go-on-requires c κs =
+    let runs = c .before .before .pre in
+    record {
+      net = runs .net;
+      kinds-are = runs .kinds-are;
+      runnable = runs .runnable;
+      capacities = runs .capacities;
+      sound = runs .sound;
+      room = record { room = λ ch. omega (arith, runs .room .room ch) };
+      how = inl refl;
+    }
 
-abbrev μ-loop : tie.MeasureT-loop
-μ-loop program p count input kinds variables₀ words₀ under₀ variables words under = count - under .at
-
-fetch-requires : tie.Need-fetch-requires Inv-loop μ-loop
-fetch-requires c κs =
-    let runs = c .before .before .before .pre in
-    (runs .runnable .process, omega (arith, runs .runnable .most))
-
-act-requires : tie.Need-act-requires Inv-loop μ-loop
-act-requires c κs =
-    let fetched = c .before .before in
-    let at = fetched .before .before .before in
-    able (at .before .pre) (at .loop .inv) (fetched .before .if1 .taken) (fetched .fetch .ensures)
-
-loop-less : tie.Need-loop-less Inv-loop μ-loop
-loop-less c =
-    let fetched = c .before .before .before in
-    let at = fetched .before .before .before in
-    omega (arith, forward (at .before .pre) (at .loop .inv) (fetched .before .if1 .taken) (fetched .fetch .ensures) (c .act .ensures))
-
-loop-again : tie.Need-loop-again Inv-loop μ-loop
-loop-again c =
-    let fetched = c .before .before .before in
-    let at = fetched .before .before .before in
-    turn (at .before .pre) (at .loop .inv) (fetched .before .if1 .taken) (fetched .fetch .ensures) (c .act .ensures)
-
-returns : tie.Need-returns Inv-loop μ-loop
-returns c =
-    let at = c .before .before .before in
-    finish (at .before .pre) (at .loop .inv) (c .before .if1 .left)
+returns : tie.Need-returns
+returns c = c .before .go-on .ensures .whole refl
 
 pub job-spec : {M : Type 1} → statement M
-job-spec = tie.close (tie.spec Inv-loop μ-loop (λ c. start (c .pre)) fetch-requires act-requires loop-less loop-again returns)
+job-spec = tie.close (tie.spec go-on-requires returns)

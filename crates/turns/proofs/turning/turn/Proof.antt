@@ -1,10 +1,10 @@
 -- `turning::turn` meets its contract: the turn waits, the job under way does one action, or the next job starts.
 use borrow.Author.Needs.{needs}
 use native.Mathlib.Omega.{arith}
-use mathlib.Core.Path.{sym, ap, _∙_}
+use mathlib.Core.Path.{refl, sym, ap, _∙_}
 use Rattle.marks.specs.Row.{insideOf}
 use Rattle.marks.specs.declared.Row.{Row}
-use Rattle.turns.proofs.OneTurn.{small-process, small-count, next-suc, small-at, none-done, unready-done, ready-done, able, acts-done}
+use Rattle.turns.proofs.OneTurn.{small-process, small-count, next-suc, small-at, none-done, unready-done, ready-done, goes, acts-done}
 use Rattle.turns.proofs.turning.turn.Statement.{statement}
 use Rattle.turns.proofs.turning.turn.Tie as tie
 
@@ -25,31 +25,28 @@ element-copy-out-count c = let some = c .before in omega (arith, small-process (
 cast-count : tie.Need-cast-count
 cast-count c = let some = c .before .before in search (needs, small-count (some .before .before .before .pre) (some .if1 .left))
 
-fetch-requires : tie.Need-fetch-requires
-fetch-requires c κs =
-    let busy = c .before in
+add-until : tie.Need-add-until
+add-until c =
+    let busy = c .before .before .before in
     let some = busy .before .before .before .before in
-    let pre = some .before .before .before .pre in
-    (small-process pre (some .if1 .left), small-at pre (some .if1 .left) (busy .if2 .taken))
+    omega (arith, small-at (some .before .before .before .pre) (some .if1 .left) (busy .if2 .taken))
 
-act-requires : tie.Need-act-requires
-act-requires c κs =
-    let fetched = c .before .before .before in
-    let busy = fetched .before .before in
+go-on-requires : tie.Need-go-on-requires
+go-on-requires c κs =
+    let busy = c .before .before .before .before .before in
     let some = busy .before .before .before .before in
     let start = some .before .before .before in
-    able (start .args .before .now) (start .args .after .now) (start .args .variables .now) (start .args .finished) (start .pre) _ (next-suc (start .pre) (some .if1 .left)) (busy .if2 .taken) (fetched .fetch .ensures)
+    goes (start .args .before .now) (start .args .after .now) (start .args .variables .now) (start .args .finished) (start .pre) _ (next-suc (start .pre) (some .if1 .left)) (busy .if2 .taken)
 
 acts-returns : tie.Need-returns-2
 acts-returns c =
     let came = c .before .before in
     let acted = came .before .before in
-    let sampled = acted .before .before .before in
-    let fetched = sampled .before in
-    let busy = fetched .before .before in
+    let sampled = acted .before .before .before .before in
+    let busy = sampled .before .before in
     let some = busy .before .before .before .before in
     let start = some .before .before .before in
-    acts-done _ _ _ _ (start .pre) _ (next-suc (start .pre) (some .if1 .left)) (busy .if2 .taken) (fetched .fetch .ensures) (sampled .get .ensures) (acted .act .ensures)
+    acts-done _ _ _ _ (start .pre) _ (next-suc (start .pre) (some .if1 .left)) (busy .if2 .taken) (sampled .get .ensures) (acted .go-on .ensures .one refl)
     (came .comes-to .ensures .0) (came .comes-to .ensures .1)
 
 starts-returns : tie.Need-returns-3
@@ -92,9 +89,9 @@ turn-spec =
     cast-count
     (λ c. search needs)
     (λ c. search needs)
-    fetch-requires
     (λ c κs. search needs)
-    act-requires
+    add-until
+    go-on-requires
     (λ c κs. search needs)
     (λ c. search needs)
     acts-returns
