@@ -1,6 +1,7 @@
 //! The rules' own examples.
 
 use crate::graph::graph;
+use crate::listing::list;
 use crate::network::{Network, Pair, Process};
 use crate::plan::{check, plan};
 use crate::read::read;
@@ -88,6 +89,36 @@ fn k_listed() {
     let mut words = [9; 9];
     assert_eq!(plan(&K, 2, &mut words), Ok(()));
     assert_eq!((&words[..8], words[8]), (&K_PLAN[..], 9));
+}
+
+#[test]
+fn the_listing_of_k() {
+    let listing = "jobs 4 frame 20 edges 3\n\
+        0 0 0 20 3 0 0\n\
+        1 1 0 10 4 0 3\n\
+        2 2 0 20 6 0 7\n\
+        3 1 10 20 4 0 13\n";
+    let mut out = [0xEE; 90];
+    assert_eq!(list(&K, &mut out), Ok(listing.len()));
+    assert_eq!(&out[..listing.len()], listing.as_bytes());
+    assert!(out[listing.len()..].iter().all(|&byte| byte == 0xEE));
+    let mut exact = vec![0; listing.len()];
+    assert_eq!(list(&K, &mut exact), Ok(listing.len()));
+    assert_eq!(exact, listing.as_bytes());
+}
+
+#[test]
+fn listings_are_judged_in_order() {
+    let mut out = [0xEE; 85];
+    let short = Err(Reply::ShortBuffer.at(0));
+    assert_eq!(list(&K, &mut out), short);
+    assert_eq!(list(&K, &mut []), short);
+    let longer = [&K[..], &[0]].concat();
+    assert_eq!(list(&longer, &mut out), Err(Reply::LeftOver.at(67)));
+    assert_eq!(list(&[], &mut []), Err(Reply::EndsEarly.at(0)));
+    let file = file_of(&[[10, 1, 10, 6]; 3], &[]);
+    assert_eq!(list(&file, &mut []), Err(Reply::MissedDeadline.at(2)));
+    assert_eq!(out, [0xEE; 85]);
 }
 
 #[test]

@@ -1,7 +1,7 @@
 //! The precedence of jobs, its transitive reduction and the count of the edges that stay.
 
 use crate::frame::{Frame, Job, JOBS};
-use crate::network::PROCESSES;
+use crate::network::{Network, PROCESSES};
 use crate::read::read;
 use crate::refusal::Refusal;
 use crate::relation::{Chains, Relation};
@@ -29,12 +29,18 @@ pub struct Graph {
 
 /// Gives the job sequence and the reduced precedence graph of a network file.
 pub fn graph(file: &[u8]) -> Result<Graph, Refusal> {
-    let network = read(file)?;
-    let relation = Relation::of(&network);
-    let frame = Frame::of(&network, &relation);
-    let rows = reduce(&precedence(frame.jobs(), &relation.chains()));
-    let edges = rows.iter().map(|row| row.count_ones()).sum();
-    Ok(Graph { frame, rows, edges })
+    read(file).map(|network| Graph::of(&network))
+}
+
+impl Graph {
+    /// The graph of a sound network.
+    pub fn of(network: &Network) -> Self {
+        let relation = Relation::of(network);
+        let frame = Frame::of(network, &relation);
+        let rows = reduce(&precedence(frame.jobs(), &relation.chains()));
+        let edges = rows.iter().map(|row| row.count_ones()).sum();
+        Graph { frame, rows, edges }
+    }
 }
 
 /// Row i marks the later jobs of the same process or of related ones.

@@ -8,6 +8,7 @@ pub mod differences;
 pub mod frame;
 pub mod generate;
 pub mod graph;
+pub mod listing;
 pub mod machine;
 pub mod network;
 pub mod number;

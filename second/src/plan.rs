@@ -54,12 +54,17 @@ pub fn plan(file: &[u8], processors: u32, plan: &mut [u32]) -> Result<(), Refusa
     let Some(room) = plan.get_mut(..task.plan_words()) else {
         return Err(Reply::ShortBuffer.at(0));
     };
-    let mut planner = Planner::of(&task, processors as usize);
+    room.copy_from_slice(&planned(&task, processors)?[..room.len()]);
+    Ok(())
+}
+
+/// The words of the planner's plan, with zeros behind them.
+pub fn planned(task: &Task, processors: u32) -> Result<[u32; 2 * JOBS], Refusal> {
+    let mut planner = Planner::of(task, processors as usize);
     for _ in task.jobs() {
         planner.place_next()?;
     }
-    room.copy_from_slice(&planner.words[..task.plan_words()]);
-    Ok(())
+    Ok(planner.words)
 }
 
 /// A plan in the making.

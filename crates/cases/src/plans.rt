@@ -93,7 +93,7 @@ fn missed_deadlines() {
     show_check(b"a long job and a short one, by hand", &long, 1, &plan);
 }
 
-// Job 2 overlaps job 1 on its processor, and starts before job 0 ends, which precedes it.
+// Job 2 overlaps job 1 on its processor, and starts before job 0 ends, which precedes it. The last overlaps a job that is not its neighbour in the table.
 fn first_faults() {
     let file =
         *b"\x01\x03\x14\x01\x14\x0A\x14\x01\x14\x05\x14\x01\x14\x05\x01\x00\x02\x00\x00\x00\x00";
@@ -103,6 +103,8 @@ fn first_faults() {
     show_check(b"budgets 10, 5 and 5, job 2 at 5", &file, 2, &soon);
     let good = [0u32, 0, 1, 0, 1, 10];
     show_check(b"budgets 10, 5 and 5, job 2 at 10", &file, 2, &good);
+    let far = [0u32, 0, 1, 0, 0, 4];
+    show_check(b"budgets 10, 5 and 5, job 2 over job 0", &file, 2, &far);
 }
 
 fn show_plan(label: &[u8], file: &[u8], processors: u32, out: &mut [u32]) {

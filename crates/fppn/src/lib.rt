@@ -11,7 +11,8 @@ ghost use Rattle.reply.specs.Result.{answerOf};
 ghost use Rattle.plan.specs.Plan.{planCall, planFilled, checkCall};
 ghost use Rattle.timed.specs.Timed.{timedCall, timedFilled};
 ghost use Rattle.zero_delay.specs.ZeroDelay.{zeroDelay, ranOf, filledBy};
-ghost use Rattle.turns.specs.Turns.{turnCall, turnedOf, turnFilled};
+ghost use Rattle.promises.specs.Turns.{turnCall};
+ghost use Rattle.turns.specs.Turned.{turnedOf, turnFilled};
 ghost use Rattle.fppn.specs.Answers.{loadedFrom, writtenFrom, graphFrom, ranFrom, turnedFrom, answerFrom};
 
 // The network of a file, all zero when it is refused.

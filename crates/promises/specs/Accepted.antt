@@ -21,7 +21,7 @@ use Rattle.machine.specs.Ledger.{valid-short}
 use Rattle.plan.specs.Plan.{checkedBy}
 use Rattle.plan.specs.Promise.{check-exact}
 use Rattle.zero_delay.specs.ZeroDelay.{ranJobs, runWork, zeroDelay}
-use Rattle.turns.specs.Turns.{Between, Run, turns, atStart, okTurns, turnWork, turnCall}
+use Rattle.promises.specs.Turns.{Between, Run, turns, atStart, okTurns, turnWork, turnCall}
 use Rattle.promises.specs.Jobs.{work-ordered}
 use Rattle.promises.specs.Running.{Fit}
 
@@ -54,6 +54,7 @@ pub record Called (file : List ℕ) (m frames : ℕ) (plan input list output : L
   pub read : load file ≡ done net
   pub fit : Fit (runOf net frames plan input) m
   pub zero : zeroDelay file frames input output ≡ done (ranJobs (workOf net) input (jobCountOf (workOf net) * frames))
+  pub room : 2 * (jobCountOf (workOf net) * frames) ≤ length output
   pub is : c ≡ turns (runOf net frames plan input) list (atStart (runOf net frames plan input))
 
 -- a run on a plan that the checker accepts
@@ -82,6 +83,7 @@ module _ (file : List ℕ) (m frames : ℕ) (plan input list output : List ℕ) 
         read = read;
         fit = fits net ok m frames plan input four (s .planned);
         zero = zero-done (workOf net) few loaded s;
+        room = leb-true _ _ (s .output-room);
         is = s .is;
       }
 

@@ -16,7 +16,7 @@ use Rattle.machine.specs.WholeJob.{atEnd, actUnder, actState}
 use Rattle.machine.specs.Samples.{sampleAt}
 use Rattle.machine.specs.declared.Under.{Under}
 use Rattle.plan.specs.Plan.{processorAt}
-use Rattle.turns.specs.Turns.{Between, Run, idle, isFinished, standOf, indexOf, nextFrame, finishes, goesOn, comesTo, waits, nextJob, isReady, starts, acts, turnOn, turn}
+use Rattle.promises.specs.Turns.{Between, Run, idle, isFinished, standOf, indexOf, nextFrame, finishes, goesOn, comesTo, waits, nextJob, isReady, starts, acts, turnOn, turn}
 use Rattle.promises.specs.Running.{Fit, Any, allFinished}
 
 module _ (r : Run) where

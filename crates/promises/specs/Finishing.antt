@@ -17,8 +17,8 @@ use Rattle.machine.specs.State.{State}
 use Rattle.machine.specs.WholeJob.{started, atEnd}
 use Rattle.machine.specs.declared.Under.{Under}
 use Rattle.plan.specs.Plan.{processorAt, startAt}
-use Rattle.turns.specs.Turns.{Between, Run, isFinished, standOf, nextFrame, waits, turn}
-use Rattle.turns.specs.TurnLaws.{waits-last}
+use Rattle.promises.specs.Turns.{Between, Run, isFinished, standOf, nextFrame, waits, turn}
+use Rattle.promises.specs.TurnLaws.{waits-last}
 use Rattle.determinism.specs.Setup
 use Rattle.determinism.specs.Turns.{Ok}
 use Rattle.promises.specs.SampleWords.{getD-same}

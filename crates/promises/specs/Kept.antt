@@ -8,7 +8,7 @@ use lib.Seq.{sets, getD-set-same, getD-set-other, length-sets}
 use Rattle.graph.specs.Work.{jobCountOf, precedes}
 use Rattle.machine.specs.Samples.{sampleAt, sampleWords}
 use Rattle.plan.specs.Plan.{processorAt, startAt}
-use Rattle.turns.specs.Turns.{Between, Run, idle, isFinished, standOf}
+use Rattle.promises.specs.Turns.{Between, Run, idle, isFinished, standOf}
 use Rattle.determinism.specs.Setup.{Store, Plan, Setup, Apart}
 use Rattle.promises.specs.SampleWords.{put-same, put-other}
 use Rattle.promises.specs.Jobs.{shape, steps}

@@ -1,3 +1,5 @@
+pub mod Turns
+pub mod TurnLaws
 pub mod SampleWords
 pub mod Jobs
 pub mod Kept

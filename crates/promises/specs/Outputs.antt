@@ -11,7 +11,7 @@ use Rattle.graph.specs.Work.{jobCountOf}
 use Rattle.machine.specs.WholeJob.{blank}
 use Rattle.machine.specs.Samples.{sampleAt}
 use Rattle.zero_delay.specs.ZeroDelay.{Sofar, ranJobs}
-use Rattle.turns.specs.Turns.{Between, Run, isFinished}
+use Rattle.promises.specs.Turns.{Between, Run, isFinished}
 use Rattle.promises.specs.SampleWords.{samples-same}
 use Rattle.promises.specs.Jobs.{doneJob, ran-words, ran-length}
 use Rattle.promises.specs.Running.{Fit, Holds, now-output}

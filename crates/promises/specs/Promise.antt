@@ -4,25 +4,21 @@ use Prim.Native.Nat.{ℕ, suc, _+_, _*_, _≤_, _<_}
 use mathlib.Core.Path.{_≡_, sym, ap, subst, _∙_}
 use mathlib.Core.Logic.{_≢_}
 use mathlib.Core.Bool.{false}
-use mathlib.Core.List.{List, map}
+use mathlib.Core.List.{List}
 use native.Mathlib.Omega.{arith}
 use lib.ListN.{length, getD}
-use lib.Seq.{sets}
 use Rattle.reply.specs.Result.{done}
 use Rattle.reply.specs.ResultLaws.{done-same}
 use Rattle.network.specs.Net.{Net}
 use Rattle.network.specs.Read.{load}
 use Rattle.graph.specs.Work.{workOf, jobCountOf}
-use Rattle.machine.specs.State.{State}
 use Rattle.machine.specs.WholeJob.{blank}
 use Rattle.machine.specs.Samples.{sampleAt}
-use Rattle.machine.specs.HeldOf.{heldOf}
 use Rattle.plan.specs.Plan.{processorAt}
-use Rattle.zero_delay.specs.ZeroDelay.{Sofar, ranJobs, zeroDelay, ranOf}
-use Rattle.zero_delay.specs.ZeroDelay
-use Rattle.turns.specs.Turns.{Between, Run, isFinished, standOf, waits, turn, turnCall, turnedOf, turnFilled}
-use Rattle.turns.specs.TurnLaws.{turnsTo, to-more, to-all, each-counted}
-use Rattle.promises.specs.Jobs.{doneJob}
+use Rattle.zero_delay.specs.ZeroDelay.{Sofar, ranJobs, zeroDelay}
+use Rattle.promises.specs.Turns.{Between, Run, isFinished, standOf, waits, turn, turnCall}
+use Rattle.promises.specs.TurnLaws.{turnsTo, to-more, to-all, each-counted}
+use Rattle.promises.specs.Jobs.{doneJob, ran-length}
 use Rattle.promises.specs.Running.{Fit, Any, run-any}
 use Rattle.promises.specs.Accepted.{runOf, Called, called}
 use Rattle.promises.specs.Outputs.{HasFinished, finished-is, finished-same, unfinished-is, words-same, state-same}
@@ -88,17 +84,15 @@ pub record Promised (file : List ℕ) (m frames : ℕ) (plan input list output :
   -- the zero-delay run of the same file, frames and input is done too
   pub zero : Sofar
   pub ran : zeroDelay file frames input output ≡ done zero
+  -- both have two words for each job, and the output memory has room for them
+  pub long : length (c .words) ≡ 2 * (jobCountOf (workOf net) * frames)
+  pub zero-long : length (zero .words) ≡ 2 * (jobCountOf (workOf net) * frames)
+  pub room : 2 * (jobCountOf (workOf net) * frames) ≤ length output
   -- c is what stands after all turns
   pub last : turnsTo (runOf net frames plan input) list (length list) ≡ c
   pub as-zero-delay : AsZeroDelay (jobCountOf (workOf net)) frames c zero
   pub goes-forward : GoesForward (runOf net frames plan input) m list
   pub uninterrupted : Uninterrupted (runOf net frames plan input) list
-
--- what a turn run's call and a zero-delay run's call leave in the output memory, and return
-pub record Alike (file : List ℕ) (m frames : ℕ) (plan input list output : List ℕ) : Type 0 where
-  pub words : turnFilled (turnCall file m frames plan input list output) output ≡ ZeroDelay.filledBy (zeroDelay file frames input output) output
-  pub variables : turnedOf (turnCall file m frames plan input list output) .variables ≡ ranOf (zeroDelay file frames input output) .variables
-  pub channels : turnedOf (turnCall file m frames plan input list output) .channels ≡ ranOf (zeroDelay file frames input output) .channels
 
 -- two runs of one file do not disagree on a job that both have finished
 pub record Agreeing (file : List ℕ) (c c′ : Between) : Type 0 where
@@ -158,25 +152,14 @@ module _ (file : List ℕ) (m frames : ℕ) (plan input list output : List ℕ) 
         read = k .read;
         zero = ranJobs (workOf (k .net)) input (jobCountOf (workOf (k .net)) * frames);
         ran = k .zero;
+        long = at-end k .1 .long;
+        zero-long = ran-length (workOf (k .net)) input (jobCountOf (workOf (k .net)) * frames);
+        room = k .room;
         last = to-all r list (length list) (omega arith) ∙ sym (k .is);
         as-zero-delay = as-zero-delay r m (k .fit) c (at-end k);
         goes-forward = goes-forward r m (k .fit) list;
         uninterrupted = uninterrupted r m (k .fit) list;
       }
-
-  alike : (z : Sofar) → zeroDelay file frames input output ≡ done z → c .words ≡ z .words → c .state ≡ z .state → Alike file m frames plan input list output
-  unfolding turnedOf turnFilled ranOf ZeroDelay.filledBy
-  alike z ran words state = record {
-    words = rw (call, ran) (ap (sets output 0) words);
-    variables = rw (call, ran) (ap (λ (s : State). s .variables) state);
-    channels = rw (call, ran) (ap (λ (s : State). map heldOf (s .channels)) state);
-  }
-
-  -- a run that has finished all its frames leaves the zero-delay run's output words, word for word, and returns its variables and channels
-  pub complete : c .frames ≡ frames → Alike file m frames plan input list output
-  complete last =
-      let p : Promised file m frames plan input list output c = promised in
-      alike (p .zero) (p .ran) (p .as-zero-delay .words last) (p .as-zero-delay .state last)
 
   -- a finished job's output is that of the job done whole in the zero-delay run
   whole : (net : Net) → load file ≡ done net → (f j : ℕ) → HasFinished (jobCountOf (workOf net)) c f j

@@ -24,8 +24,8 @@ use Rattle.machine.specs.declared.Under.{Under}
 use Rattle.plan.specs.Plan.{processorAt, startAt}
 use Rattle.plan.specs.Feasible.{Feasible}
 use Rattle.zero_delay.specs.ZeroDelay.{ranJobs}
-use Rattle.turns.specs.Turns.{Between, Run, idle, isFinished, standOf, nextFrame, finishes, goesOn, comesTo, waits, nextJob, isReady, starts, acts, turnOn, turn, turns, atStart}
-use Rattle.turns.specs.TurnLaws.{waits-last}
+use Rattle.promises.specs.Turns.{Between, Run, idle, isFinished, standOf, nextFrame, finishes, goesOn, comesTo, waits, nextJob, isReady, starts, acts, turnOn, turn, turns, atStart}
+use Rattle.promises.specs.TurnLaws.{waits-last}
 use Rattle.determinism.specs.Setup.{Lawful}
 use Rattle.determinism.specs.Setup
 use Rattle.determinism.specs.Turns.{Ok, Sound, sound-turn, sound-fresh, final-state, finished-output}

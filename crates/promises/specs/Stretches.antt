@@ -1,14 +1,14 @@
 -- Stretches of the turns of one run: from any turn to any later one.
 use Prim.Native.Nat.{ℕ, suc, _+_, _*_, _-_, _≤_, _<_}
-use mathlib.Core.Path.{_≡_, refl, sym, ap, subst, _∙_}
-use mathlib.Core.List.{List, [], _∷_, _++_}
+use mathlib.Core.Path.{_≡_, sym, ap, subst, _∙_}
+use mathlib.Core.List.{List}
 use native.Mathlib.Nat.{mul-comm}
 use native.Mathlib.Omega.{arith}
 use lib.ListN.{length, getD, take, drop, length-drop}
 use lib.Seq.{take-add, getD-take, getD-drop, length-take-le}
 use Rattle.graph.specs.Work.{jobCountOf}
-use Rattle.turns.specs.Turns.{Between, Run, waits, turn, turns, atStart}
-use Rattle.turns.specs.TurnLaws.{turnsTo, to-more}
+use Rattle.promises.specs.Turns.{Between, Run, waits, turn, turns, atStart}
+use Rattle.promises.specs.TurnLaws.{turnsTo, to-more, more-turns}
 use Rattle.promises.specs.Running.{Fit, Any, run-any}
 use Rattle.promises.specs.Working.{stretch-works, frame-turns, all-turns, waits-only}
 
@@ -25,18 +25,13 @@ part-at list from to k h l =
     getD-take (to - from) (drop from list) (k - from) 0 (omega arith) ∙ getD-drop from list (k - from) 0 ∙ ap (λ i. getD list i 0) z
 
 module _ (r : Run) where
-  turns-append : (a b : List ℕ) (c : Between) → turns r (a ++ b) c ≡ turns r b (turns r a c)
-  unfolding turns
-  turns-append [] b c = refl
-  turns-append (m ∷ a) b c = turns-append a b (turn r m c)
-
   to-part : (list : List ℕ) (from to : ℕ) → from ≤ to → turnsTo r list to ≡ turns r (part list from to) (turnsTo r list from)
   unfolding turnsTo
   to-part list from to h =
       let z : to ≡ from + (to - from) = omega arith in
       ap (λ t. turns r (take t list) (atStart r)) z
       ∙ ap (λ (l : List ℕ). turns r l (atStart r)) (take-add from (to - from) list)
-      ∙ turns-append (take from list) (part list from to) (atStart r)
+      ∙ more-turns r (take from list) (part list from to) (atStart r)
 
 module _ (r : Run) (processors : ℕ) (g : Fit r processors) (list : List ℕ) where
   pub to-any : (t : ℕ) → Any r processors g (turnsTo r list t)

@@ -12,8 +12,8 @@ use Rattle.reply.specs.AllAny.{all-false}
 use Rattle.graph.specs.Work.{jobCountOf, processOf}
 use Rattle.machine.specs.declared.Sample.{Sample}
 use Rattle.machine.specs.declared.Under.{Under}
-use Rattle.turns.specs.Turns.{Between, Run, isFinished, standOf, nextFrame, waits, turn, turns, atStart}
-use Rattle.turns.specs.TurnLaws.{waits-last}
+use Rattle.promises.specs.Turns.{Between, Run, isFinished, standOf, nextFrame, waits, turn, turns, atStart}
+use Rattle.promises.specs.TurnLaws.{waits-last}
 use Rattle.determinism.specs.Interleaving.{Status, waiting, running, finished}
 use Rattle.determinism.specs.Setup
 use Rattle.determinism.specs.Turns.{Sound, sound-turn}

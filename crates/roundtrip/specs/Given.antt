@@ -59,7 +59,7 @@ writtenTo s out = take (wrote s out .length) (wroteTo s out)
 front : (out file : List ℕ) → length file ≤ length out → take (length file) (sets out 0 file) ≡ file
 front out file h = ap (take (length file)) (sets-eq file out 0 (omega arith)) ∙ take-append-seam file _
 
-writing-honest : (s : Network) (room : ℕ) → Honest (writing s room)
+pub writing-honest : (s : Network) (room : ℕ) → Honest (writing s room)
 unfolding writing given
 writing-honest s room =
     honest-then _ _ (honest-load (encodeNetwork s)) λ net.

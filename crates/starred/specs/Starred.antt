@@ -10,7 +10,8 @@ use Rattle.number.specs.Number.{numberAt}
 use Rattle.roundtrip.specs.Examples.{K}
 use Rattle.plan.specs.Plan.{planCall, planFilled, checkCall}
 use Rattle.plan.specs.Opens.{plan-definitions}
-use Rattle.turns.specs.Turns.{Between, turnCall, turnFilled}
+use Rattle.promises.specs.Turns.{Between, turnCall}
+use Rattle.turns.specs.Turned.{turnFilled}
 use Rattle.turns.specs.Opens.{turn-definitions}
 use Rattle.timed.specs.Timed.{timedCall}
 use Rattle.timed.specs.Opens.{timed-definitions}

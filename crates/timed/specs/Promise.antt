@@ -70,7 +70,7 @@ module _ (net : Net) (ok : Valid net) (m : ℕ) (plan durations : List ℕ) (goo
 
 -- ---- the call
 
-honest-call : (file : List ℕ) (m : ℕ) (plan durations out : List ℕ) → Honest (timedCall file m plan durations out)
+pub honest-call : (file : List ℕ) (m : ℕ) (plan durations out : List ℕ) → Honest (timedCall file m plan durations out)
 unfolding timedCall timedWork
 honest-call file m plan durations out =
     honest-then _ _ (honest-require (leb 1 m && leb m 4) OutOfRange 0 (omega arith)) λ ok.

@@ -23,8 +23,8 @@ use Rattle.machine.specs.WholeJob.{programOf}
 use Rattle.plan.specs.Plan.{startAt}
 use Rattle.machine.specs.Words.{SoundWords}
 use Rattle.machine.specs.Acting.{Room}
-use Rattle.turns.specs.Turns.{Run, Between, turn}
-use Rattle.turns.specs.TurnLaws.{turnsTo, to-more, each-counted}
+use Rattle.promises.specs.Turns.{Run, Between, turn}
+use Rattle.promises.specs.TurnLaws.{turnsTo, to-more, each-counted}
 use Rattle.turns.specs.Order.{nextLeft, isLeft, first-left}
 use Rattle.turns.specs.Lent.{RunTables, idleAt, InFrame, Begins, Standing, Stepped, TurnNeeds, TurnDone, lossIn, spent, FrameBegun, FrameNeeds, FrameTurns}
 use Rattle.turns.specs.declared.turning.Processor.{Processor}

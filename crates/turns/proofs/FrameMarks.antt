@@ -21,7 +21,7 @@ use Rattle.network.specs.Lists.{table}
 use Rattle.network.specs.ListLaws.{length-table, getD-table}
 use Rattle.graph.specs.Work.{jobCountOf, precedes}
 use Rattle.plan.specs.Plan.{processorAt, startAt}
-use Rattle.turns.specs.Turns.{Run, Between, isFinished, finishedCount, nextJob, isReady}
+use Rattle.promises.specs.Turns.{Run, Between, isFinished, finishedCount, nextJob, isReady}
 use Rattle.turns.specs.Order.{isLeft, nextLeft}
 use Rattle.turns.specs.Lent.{rowAt, RunTables}
 

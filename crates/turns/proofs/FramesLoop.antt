@@ -13,8 +13,8 @@ use Rattle.graph.specs.Work.{jobCountOf}
 use Rattle.machine.specs.Samples.{sampleAt}
 use Rattle.machine.specs.Words.{SoundWords}
 use Rattle.zero_delay.specs.RunLaws.{sample-after}
-use Rattle.turns.specs.Turns.{Run, Between, finishedCount, turns, atStart}
-use Rattle.turns.specs.TurnLaws.{turnsTo, to-start, to-all, each-counted, last-waits}
+use Rattle.promises.specs.Turns.{Run, Between, finishedCount, turns, atStart}
+use Rattle.promises.specs.TurnLaws.{turnsTo, to-start, to-all, each-counted, last-waits}
 use Rattle.turns.specs.Lent.{Begins, lossIn, FrameBegun, FrameNeeds, FrameDone, FrameTurns, RunBegun, RunNeeds, RunTurns}
 use Rattle.turns.specs.declared.frames.FrameTurned.{FrameTurned}
 use Rattle.turns.proofs.FrameMarks.{none-finished}

@@ -25,7 +25,7 @@ use Rattle.machine.specs.Jobs.{Goes}
 use Rattle.machine.specs.declared.Action.{Action}
 use Rattle.machine.specs.declared.Sample.{Sample}
 use Rattle.machine.specs.declared.Under.{Under}
-use Rattle.turns.specs.Turns.{Run, Stand, idle, Between, standOf, comesTo, waits, nextJob, starts, acts, turnOn, turn}
+use Rattle.promises.specs.Turns.{Run, Stand, idle, Between, standOf, comesTo, waits, nextJob, starts, acts, turnOn, turn}
 use Rattle.turns.specs.Lent.{rowAt, standBy, idleAt, Standing, Stepped, TurnNeeds, TurnDone, lossIn, cameTo, leftBy, waited}
 use Rattle.turns.specs.declared.turning.Processor.{Processor}
 use Rattle.turns.specs.declared.turning.Turned.{Turned}

@@ -23,7 +23,7 @@ use Rattle.machine.specs.Samples.{sampleWords}
 use Rattle.machine.specs.Words.{stateBy}
 use Rattle.machine.specs.declared.Under.{Under}
 use Rattle.plan.specs.Plan.{processorAt}
-use Rattle.turns.specs.Turns.{Run, Stand, idle, Between, isFinished, nextFrame, finishes, goesOn, comesTo, waits}
+use Rattle.promises.specs.Turns.{Run, Stand, idle, Between, isFinished, nextFrame, finishes, goesOn, comesTo, waits}
 use Rattle.turns.specs.Order.{nextLeft, left-picked, left-on, left-todo, left-after, left-other, order-after}
 use Rattle.turns.specs.Lent.{standBy, idleAt, InFrame, Standing, Stepped, Wrote, lossIn, spent, cameTo, leftBy, waited}
 use Rattle.turns.specs.declared.turning.Processor.{Processor}

@@ -10,7 +10,7 @@ use borrow.Author.Tests.{lt-ltb, le-ltb}
 use Rattle.reply.specs.Result.{Result, done, refused, require, inOrder}
 use Rattle.reply.specs.ResultLaws.{order-zero, order-more, order-refused}
 use Rattle.reply.specs.declared.Reply.the-variants.{WrongTurn}
-use Rattle.turns.specs.Turns.{okTurns}
+use Rattle.promises.specs.Turns.{okTurns}
 
 module _ (m : ℕ) (list : List ℕ) where
   abbrev one : ℕ → Result (Unit {0})

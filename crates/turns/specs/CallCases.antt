@@ -19,9 +19,12 @@ use Rattle.machine.specs.Samples.{okSamples}
 use Rattle.machine.specs.SampleLaws.{honest-samples}
 use Rattle.plan.specs.Plan.{checkedBy}
 use Rattle.plan.specs.CheckTold.{Judged}
-use Rattle.turns.specs.Turns.{Between, turns, okTurns, turnWork, turnCall, turnedOf, turnFilled}
+use Rattle.plan.specs.CheckLaws.{honest-check}
+use Rattle.plan.specs.CallLaws.{frame-tables}
+use Rattle.promises.specs.Turns.{Between, turns, okTurns, turnWork, turnCall}
+use Rattle.turns.specs.Turned.{turnedOf, turnFilled}
 use Rattle.turns.specs.Calls.{refusedWith, judgedBy, ranIn}
-use Rattle.turns.specs.CallLaws.{frame-tables, honest-checked, honest-judged, plan-refused, sample-refused, turns-judged}
+use Rattle.turns.specs.CallLaws.{honest-judged, plan-refused, sample-refused, turns-judged}
 use Rattle.turns.specs.declared.TurnRan.{TurnRan}
 
 -- ---- plan, samples and turns
@@ -44,7 +47,7 @@ module _ (w : Work) (m frames : ℕ) (plan input list : List ℕ) where
 
   module _ {checked : Answer} (told : checked ≡ answerOf (checkedBy w m plan)) (zero : replyNumber (checked .reply) ≡ 0) where
     good-check : checkedBy w m plan ≡ done tt
-    good-check = zero-means {P = checkedBy w m plan ≡ done tt} (checkedBy w m plan) (honest-checked w m plan) (rw told at zero) λ ok e. e
+    good-check = zero-means {P = checkedBy w m plan ≡ done tt} (checkedBy w m plan) (honest-check w m plan) (rw told at zero) λ ok e. e
 
     -- a sample is wrong
     pub judged-sample : {answer : Answer} → answer ≡ answerOf (okSamples (jobCountOf w * frames) input) → (replyNumber (answer .reply) ≡ 0 → ⊥)

@@ -6,20 +6,19 @@ use mathlib.Core.Bool.{not}
 use mathlib.Core.List.{List, _++_, map}
 use native.Mathlib.Nat.{zero-add}
 use native.Mathlib.Omega.{arith}
-use lib.Dec.{ltb, leb}
+use lib.Dec.{ltb}
 use lib.ListN.{length, getD, drop, replicate, length-append, length-replicate, length-drop}
 use lib.Seq.{sets, sets-eq}
 use borrow.Author.Tests.{ltb-true}
-use Rattle.reply.specs.Tools.{any}
 use Rattle.reply.specs.Result.{done, refused}
 use Rattle.reply.specs.ResultLaws.{Honest, accepted, require-done, order-done, honest-order, honest-then, honest-require}
 use Rattle.reply.specs.declared.Reply.{Reply}
-use Rattle.reply.specs.declared.Reply.the-variants.{Done, WrongProcessor, BeforeRelease, EndsLate, Overlaps, BeforePredecessor, WrongTurn}
+use Rattle.reply.specs.declared.Reply.the-variants.{Done, WrongTurn}
 use Rattle.marks.specs.Row.{marked, noMarks}
 use Rattle.marks.specs.Laws.{marked-row}
 use Rattle.marks.specs.declared.Row.{Row}
 use Rattle.network.specs.ListLaws.{getD-table, fill-at}
-use Rattle.graph.specs.Work.{Work, workOf, jobCountOf, release, deadline, cost, precedes}
+use Rattle.graph.specs.Work.{Work, workOf, jobCountOf, cost, precedes}
 use Rattle.graph.specs.WorkLaws.{goes-forward}
 use Rattle.graph.specs.Graph.{rowsTo}
 use Rattle.graph.specs.FrameOf.{FrameOf, workIn, count-is, work-is}
@@ -35,13 +34,12 @@ use Rattle.machine.specs.Words.{contentsIn}
 use Rattle.machine.specs.StartLaws.{noWords, start-sound, start-state, start-room}
 use Rattle.machine.specs.Acting.{KindsTold}
 use Rattle.zero_delay.specs.CallLaws.{tables, ready}
-use Rattle.plan.specs.Plan.{processorAt, startAt, endAt, overlap, tooSoon, fault, checkedBy}
+use Rattle.plan.specs.Plan.{startAt, endAt, checkedBy}
 use Rattle.plan.specs.Feasible.{Feasible}
-use Rattle.plan.specs.CheckTold.{TablesOf, Checkable}
-use Rattle.plan.specs.CheckTables.{tables-of, checkable}
-use Rattle.plan.specs.CheckLaws.{checked-feasible}
-use Rattle.turns.specs.Turns.{Run, Between, turns, atStart, okTurns, turnedOf, turnFilled}
-use Rattle.turns.specs.TurnLaws.{turnsTo, to-all, each-counted}
+use Rattle.plan.specs.CheckLaws.{checked-feasible, honest-check}
+use Rattle.promises.specs.Turns.{Run, Between, turns, atStart, okTurns}
+use Rattle.turns.specs.Turned.{turnedOf, turnFilled}
+use Rattle.promises.specs.TurnLaws.{turnsTo, to-all, each-counted}
 use Rattle.turns.specs.Order.{FirstIs, AfterIs, StartsApart}
 use Rattle.turns.specs.Lent.{rowAt, RowWords, RunTables, RunBegun, RunNeeds, RunDone, RunTurns}
 use Rattle.turns.specs.Calls.{judgedBy, runIn, ranIn, Admitted}
@@ -54,20 +52,6 @@ cleared-size output n h = length-append (replicate n 0) (drop n output) ∙ omeg
 
 -- ---- what is judged
 
-module _ (w : Work) (m : ℕ) (plan : List ℕ) where
-  honest-fault : (j : ℕ) → Honest (fault w m plan j)
-  unfolding fault
-  honest-fault j =
-      honest-then _ _ (honest-require (ltb (processorAt plan j) m) WrongProcessor j (omega arith)) λ ok₁.
-      honest-then _ _ (honest-require (leb (release w j) (startAt plan j)) BeforeRelease j (omega arith)) λ ok₂.
-      honest-then _ _ (honest-require (leb (endAt w plan j) (deadline w j)) EndsLate j (omega arith)) λ ok₃.
-      honest-then _ _ (honest-require (not (any j (λ i. overlap w plan i j))) Overlaps j (omega arith)) λ ok₄.
-      honest-require (not (any j (λ i. tooSoon w plan i j))) BeforePredecessor j (omega arith)
-
-  pub honest-checked : Honest (checkedBy w m plan)
-  unfolding checkedBy
-  honest-checked = honest-order (jobCountOf w) (fault w m plan) (λ j h. honest-fault j)
-
 pub honest-turns : (m : ℕ) (list : List ℕ) → Honest (okTurns m list)
 unfolding okTurns
 honest-turns m list = honest-order (length list) _ (λ k h. honest-require (ltb (getD list k 0) m) WrongTurn k (omega arith))
@@ -75,7 +59,7 @@ honest-turns m list = honest-order (length list) _ (λ k h. honest-require (ltb 
 module _ (w : Work) (m frames : ℕ) (plan input list : List ℕ) where
   pub honest-judged : Honest (judgedBy w m frames plan input list)
   unfolding judgedBy
-  honest-judged = honest-then _ _ (honest-checked w m plan) λ ok₁. honest-then _ _ (honest-samples (jobCountOf w * frames) input) λ ok₂. honest-turns m list
+  honest-judged = honest-then _ _ (honest-check w m plan) λ ok₁. honest-then _ _ (honest-samples (jobCountOf w * frames) input) λ ok₂. honest-turns m list
 
   -- the plan is judged first, then the samples, and the turns last
   pub plan-refused : {reply : Reply} {place : ℕ} → checkedBy w m plan ≡ refused reply place → judgedBy w m frames plan input list ≡ refused reply place
@@ -108,18 +92,6 @@ module _ (w : Work) (m frames : ℕ) (plan input list : List ℕ) where
     turn-named t h = ltb-true (getD list t 0) m (require-done _ WrongTurn t (order-done _ (length list) good-turns t h))
 
 -- ---- the tables
-
-module _ {framed : Framed} (frame : FrameOf framed) where
-  pub frame-tables : TablesOf (workIn framed) (framed .jobs) (framed .before) (framed .«job_count»)
-  frame-tables =
-      rw (work-is frame)
-      (subst (λ (x : Framed). TablesOf (workOf (frame .net)) (x .jobs) (x .before) (x .«job_count»)) (sym (frame .is))
-      (tables-of (workOf (frame .net)) (jobs-are (frame .net) (frame .valid) .most)))
-
-  pub frame-checkable : (plan : List ℕ) → 2 * framed .«job_count» ≤ length plan → Checkable (framed .jobs) (framed .before) (framed .«job_count») plan
-  frame-checkable plan =
-      subst (λ (x : Framed). 2 * x .«job_count» ≤ length plan → Checkable (x .jobs) (x .before) (x .«job_count») plan) (sym (frame .is))
-      (checkable (frame .net) (frame .valid) plan)
 
 module _ {framed : Framed} (frame : FrameOf framed) (m : ℕ) (plan : List ℕ) (good : checkedBy (workIn framed) m plan ≡ done tt) where
   abbrev w : Work

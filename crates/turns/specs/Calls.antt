@@ -11,7 +11,7 @@ use Rattle.graph.specs.declared.Framed.{Framed}
 use Rattle.machine.specs.HeldOf.{noHeld}
 use Rattle.machine.specs.Samples.{okSamples}
 use Rattle.plan.specs.Plan.{checkedBy}
-use Rattle.turns.specs.Turns.{Run, Between, turns, atStart, okTurns}
+use Rattle.promises.specs.Turns.{Run, Between, turns, atStart, okTurns}
 use Rattle.turns.specs.declared.TurnRan.{TurnRan}
 
 -- what a refused call returns

@@ -6,7 +6,8 @@ use lib.ListN.{replicate}
 use Rattle.reply.specs.Reply.{replyNumber}
 use Rattle.machine.specs.HeldOf.{noHeld}
 use Rattle.roundtrip.specs.Examples.{K}
-use Rattle.turns.specs.Turns.{turnCall, turnedOf, turnFilled}
+use Rattle.promises.specs.Turns.{turnCall}
+use Rattle.turns.specs.Turned.{turnedOf, turnFilled}
 use Rattle.turns.specs.Opens.{turn-definitions}
 use Rattle.turns.specs.declared.TurnRan.{TurnRan}
 

@@ -18,8 +18,8 @@ use Rattle.machine.specs.Words.{contentsIn, stateBy, SoundWords}
 use Rattle.machine.specs.Acting.{Room}
 use Rattle.machine.specs.declared.Under.{Under}
 use Rattle.zero_delay.specs.Lent.{TablesOf, Ready}
-use Rattle.turns.specs.Turns.{Run, Stand, idle, Between, finishedCount, turn, turns, atStart}
-use Rattle.turns.specs.TurnLaws.{turnsTo}
+use Rattle.promises.specs.Turns.{Run, Stand, idle, Between, finishedCount, turn, turns, atStart}
+use Rattle.promises.specs.TurnLaws.{turnsTo}
 use Rattle.turns.specs.Order.{nextLeft, FirstIs, AfterIs, StartsApart, InOrder}
 use Rattle.turns.specs.declared.turning.Processor.{Processor}
 use Rattle.turns.specs.declared.turning.Turned.{Turned}

@@ -1,9 +1,9 @@
-pub mod Turns
+pub mod Turned
 pub mod Opens
 pub mod Examples
-pub mod TurnLaws
 pub mod Order
 pub mod Lent
 pub mod Calls
 pub mod CallLaws
 pub mod CallCases
+pub mod Promise

@@ -3,7 +3,7 @@ use reply::Answer;
 use reply::Reply;
 ghost use mathlib.Core.Path.{_≡_};
 ghost use Rattle.reply.specs.Result.{answerOf};
-ghost use Rattle.turns.specs.Turns.{okTurns};
+ghost use Rattle.promises.specs.Turns.{okTurns};
 
 // The turns in order: reply 17 at the first that names no processor.
 pub fn judge(turns: &[u32], processors: u32) -> Answer

@@ -20,8 +20,10 @@ ghost use mathlib.Core.Path.{_≡_};
 ghost use Prim.Native.Nat.{_≤_};
 ghost use Rattle.reply.specs.Result.{done, answerOf};
 ghost use Rattle.graph.specs.FrameOf.{FrameOf, workIn};
-ghost use Rattle.turns.specs.Turns.{turnWork, turnCall, turnedOf, turnFilled};
+ghost use Rattle.promises.specs.Turns.{turnWork, turnCall};
+ghost use Rattle.turns.specs.Turned.{turnedOf, turnFilled};
 ghost use Rattle.turns.specs.Calls.{refusedWith, judgedBy, ranIn, Judgeable, Admitted};
+ghost use Rattle.turns.specs.Promise.{KeepsPromise};
 
 // What the run returns, all zero when it is refused: the frames finished, the jobs finished in the present frame, the working and the waiting turns,
 // the variables, eight for each process, and what the channels hold.
@@ -188,6 +190,7 @@ pub fn run(
 ) -> TurnRan
     ensures result { λ r. ⌜ r ≡ turnedOf (turnCall (now (file .entry)) processors frames (now (plan .entry)) (now (input .entry)) (now (turns .entry)) (now (output .entry))) ⌝ }
     ensures filled { λ _. ⌜ now (output .exit) ≡ turnFilled (turnCall (now (file .entry)) processors frames (now (plan .entry)) (now (input .entry)) (now (turns .entry)) (now (output .entry))) (now (output .entry)) ⌝ }
+    ensures promise { λ r. ⌜ KeepsPromise (now (file .entry)) processors frames (now (plan .entry)) (now (input .entry)) (now (turns .entry)) (now (output .entry)) r (now (output .exit)) ⌝ }
 {
     let out_of_range = Answer {
         reply: Reply::OutOfRange,

@@ -4,7 +4,7 @@ use native.Mathlib.Nat.{mul-le-mul}
 use native.Mathlib.Omega.{arith}
 use mathlib.Core.Path.{sym, _∙_}
 use Rattle.graph.specs.FrameOf.{few-jobs}
-use Rattle.turns.specs.CallLaws.{frame-checkable}
+use Rattle.plan.specs.CallLaws.{frame-checkable}
 use Rattle.turns.specs.CallCases.{plan-told, samples-told, judged-plan, judged-sample, judged-turns}
 use Rattle.turns.proofs.judge.Statement.{statement}
 use Rattle.turns.proofs.judge.Tie as tie

@@ -13,7 +13,7 @@ use Rattle.graph.specs.Work.{jobCountOf, processOf}
 use Rattle.machine.specs.State.{State}
 use Rattle.machine.specs.WholeJob.{atEnd}
 use Rattle.machine.specs.declared.Under.{Under}
-use Rattle.turns.specs.Turns.{Run, Between, standOf, isFinished, nextFrame, finishes, goesOn, comesTo, waits, nextJob, isReady, starts, acts, turnOn, turn, turns, atStart}
+use Rattle.promises.specs.Turns.{Run, Between, standOf, isFinished, nextFrame, finishes, goesOn, comesTo, waits, nextJob, isReady, starts, acts, turnOn, turn, turns, atStart}
 
 -- after the first t turns
 unfoldable pub turnsTo : Run → List ℕ → ℕ → Between
@@ -91,7 +91,7 @@ module _ (r : Run) where
       let w : Waited (waits c) (turns r ms (waits c)) = all-wait ms (waits c) h in
       rw (waits-last m c h) (record { frames = w .frames; finished = w .finished; state = w .state; words = w .words; working = w .working })
 
-  more-turns : (list more : List ℕ) (c : Between) → turns r (list ++ more) c ≡ turns r more (turns r list c)
+  pub more-turns : (list more : List ℕ) (c : Between) → turns r (list ++ more) c ≡ turns r more (turns r list c)
   unfolding turns
   more-turns [] more c = refl
   more-turns (m ∷ ms) more c = more-turns ms more (turn r m c)

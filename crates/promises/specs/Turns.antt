@@ -1,22 +1,20 @@
 -- The turn run: each turn names a processor, which starts its next job, does one action of the job under way, or waits.
 use Prim.Native.Nat.{ℕ, zero, suc, _+_, _*_}
 use mathlib.Core.Bool.{Bool, true, false, cond, not, _&&_, _||_}
-use mathlib.Core.List.{List, [], _∷_, map}
+use mathlib.Core.List.{List, [], _∷_}
 use lib.ListN.{length, getD, set, replicate}
 use lib.Seq.{sets}
 use lib.Dec.{ltb, eqb}
 use Rattle.reply.specs.Tools.{all, count, pick}
-use Rattle.reply.specs.Result.{Result, done, andThen, require, inOrder, answerOf, orZero}
+use Rattle.reply.specs.Result.{Result, done, andThen, require, inOrder}
 use Rattle.reply.specs.Call.{okProcessors, okFrames, okRoom}
 use Rattle.reply.specs.declared.Reply.the-variants.{WrongTurn}
 use Rattle.graph.specs.Work.{Work, loadWork, jobCountOf, processOf, precedes}
 use Rattle.machine.specs.State.{State, startState}
 use Rattle.machine.specs.WholeJob.{started, actState, actUnder, atEnd}
 use Rattle.machine.specs.Samples.{sampleAt, sampleWords, okSamples}
-use Rattle.machine.specs.HeldOf.{heldOf, noHeld}
 use Rattle.machine.specs.declared.Under.{Under}
 use Rattle.plan.specs.Plan.{processorAt, startAt, checkedBy}
-use Rattle.turns.specs.declared.TurnRan.{TurnRan}
 
 -- what a run is of: the work, the frames asked for, the plan, the input
 pub record Run : Type 0 where
@@ -185,18 +183,3 @@ turnCall file m frames plan input list output =
     andThen (okFrames frames) λ ok₂.
     andThen (loadWork file) λ w.
     turnWork w m frames plan input list output
-
--- what it returns, and the output words afterwards
-unfoldable pub turnedOf : Result Between → TurnRan
-turnedOf r = record {
-  answer = answerOf r;
-  frames = orZero 0 (λ (c : Between). c .frames) r;
-  jobs = orZero 0 finishedCount r;
-  working = orZero 0 (λ (c : Between). c .working) r;
-  waiting = orZero 0 (λ (c : Between). c .waiting) r;
-  variables = orZero (replicate 96 0) (λ (c : Between). c .state .variables) r;
-  channels = orZero (replicate 16 noHeld) (λ (c : Between). map heldOf (c .state .channels)) r;
-}
-
-unfoldable pub turnFilled : Result Between → List ℕ → List ℕ
-turnFilled r output = orZero output (λ (c : Between). sets output 0 (c .words)) r
