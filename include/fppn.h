@@ -128,6 +128,12 @@ typedef struct {
 typedef struct {
     uint32_t reply;
     size_t place;
+    size_t length; /* bytes of text */
+} fppn_listed;
+
+typedef struct {
+    uint32_t reply;
+    size_t place;
 } fppn_answer;
 
 /* Reads a network file. Replies 0 to 9. */
@@ -156,7 +162,8 @@ fppn_answer fppn_check(const uint8_t *file, size_t file_length, uint32_t process
 
 /* The turn run: the jobs of a plan on 1 to 4 processors, for 1 to 100 frames. A turn is the number of a processor. With no job under way it starts its
    next job in planned order if all that precede it have finished; with one under way it does one action; else it waits. Samples as in the zero-delay run;
-   a job that has not finished leaves 0, 0. Replies 0 to 17. */
+   a job that has not finished leaves 0, 0. Whatever the plan and the turns, what a job leaves is what it leaves in fppn_zero_delay; when all frames have
+   finished, so are all output words, variables and channels. Replies 0 to 17. */
 fppn_turned fppn_turns(const uint8_t *file, size_t file_length, uint32_t processors, uint32_t frames, const uint32_t *plan, size_t plan_length,
                        const uint32_t *input, size_t input_length, const uint32_t *turns, size_t turns_length, uint32_t *output,
                        size_t output_length);
@@ -165,6 +172,11 @@ fppn_turned fppn_turns(const uint8_t *file, size_t file_length, uint32_t process
    the latest of its release, the ends of the jobs that precede it, and the end of the job before it on its processor. Replies 0 to 15 and 18. */
 fppn_answer fppn_timed(const uint8_t *file, size_t file_length, uint32_t processors, const uint32_t *plan, size_t plan_length,
                        const uint32_t *durations, size_t durations_length, uint32_t *out, size_t out_length);
+
+/* The listing of a network, planned for two processors, to the front of `out`: a line `jobs J frame H edges E`, and then a line for each job: job, process,
+   release, deadline, budget, processor and start. The numbers are plain decimals with single spaces between them, and a newline ends each line. No zero
+   byte comes after the text. 3744 bytes hold every listing. Replies 0 to 10 and 19; a file that the planner refuses gives 19 whatever the length of `out`. */
+fppn_listed fppn_list(const uint8_t *file, size_t file_length, uint8_t *out, size_t out_length);
 
 #ifdef __cplusplus
 }

@@ -5,7 +5,7 @@ use crate::machine::{Final, Held};
 use crate::network::{Channel, Network, Pair, Process};
 use crate::refusal::Refusal;
 use crate::turns::{Request, TurnsRan};
-use crate::{graph, plan, read, timed, turns, write, zero_delay};
+use crate::{graph, listing, plan, read, timed, turns, write, zero_delay};
 
 fn process(process: Process) -> fppn::Process {
     let Process {
@@ -224,4 +224,15 @@ pub fn timed(
     out: &mut [u32],
 ) -> fppn::Answer {
     bare(timed::run_timed(file, processors, plan, durations, out))
+}
+
+/// Lists a network file into `out`.
+pub fn list(file: &[u8], out: &mut [u8]) -> fppn::Listed {
+    let answer = listing::list(file, out);
+    let (reply, place) = reply_and_place(&answer);
+    fppn::Listed {
+        reply,
+        place,
+        length: answer.unwrap_or(0),
+    }
 }

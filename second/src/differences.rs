@@ -133,6 +133,18 @@ impl Answer for fppn::Turned {
     }
 }
 
+impl Answer for fppn::Listed {
+    fn reply(&self) -> u32 {
+        self.reply
+    }
+
+    fn words(&self) -> Vec<Named> {
+        let mut words = head(self.reply, self.place);
+        words.push(("length".into(), self.length as u64));
+        words
+    }
+}
+
 /// Adds what a run leaves.
 fn left(words: &mut Vec<Named>, variables: &[u32], channels: &[fppn::Held]) {
     list(words, "variables", variables);

@@ -16,6 +16,7 @@ pub mod runs;
 pub mod turns;
 
 use crate::frame;
+use crate::listing;
 use crate::network::Network;
 use crate::read;
 use durations::TimedRun;
@@ -42,7 +43,12 @@ pub struct Case {
     pub given: [Given; 3],
     pub turn_run: TurnRun,
     pub timed_run: TimedRun,
+    /// The lengths of memory lent to the lister, one call each.
+    pub listing_rooms: [usize; 4],
 }
+
+/// The most bytes that are lent to the lister where there is no listing.
+const LISTING: usize = 4000;
 
 /// Case `number` of a seed.
 pub fn case(seed: u64, number: u64) -> Case {
@@ -56,7 +62,7 @@ pub fn case(seed: u64, number: u64) -> Case {
         described(networks::any(&mut random))
     };
     let mut file = file::of(&network);
-    let length = file.len();
+    let rooms = rooms(file.len());
     if chosen >= 80 {
         kind = format!("{kind}, {}", bytes::damage(&mut random, &mut file));
     } else if random.chance(45) {
@@ -70,7 +76,6 @@ pub fn case(seed: u64, number: u64) -> Case {
     }
     let jobs = jobs_of(&file).unwrap_or(random.within(1, 130) as usize);
     let run = runs::any(&mut random, jobs);
-    let rooms = [length, length - 1, length + 1, 0];
     let subject = Subject::any(&mut random, &file);
     Case {
         kind,
@@ -82,7 +87,21 @@ pub fn case(seed: u64, number: u64) -> Case {
         given: std::array::from_fn(|_| Given::any(&mut random, &subject)),
         turn_run: TurnRun::any(&mut random, &subject),
         timed_run: TimedRun::any(&mut random, &subject),
+        listing_rooms: rooms_of_listing(&mut random, &subject.file),
         subject,
+    }
+}
+
+/// Lengths of memory for so many bytes: just enough, one too few, one more, and none.
+fn rooms(length: usize) -> [usize; 4] {
+    [length, length.saturating_sub(1), length + 1, 0]
+}
+
+/// Lengths of memory for the listing of a file.
+fn rooms_of_listing(random: &mut Random, file: &[u8]) -> [usize; 4] {
+    match listing::listing(file) {
+        Ok(text) => rooms(text.len()),
+        Err(_) => rooms(random.below(LISTING)),
     }
 }
 
@@ -131,6 +150,7 @@ mod tests {
             assert_eq!(one.given, other.given);
             assert_eq!(one.turn_run, other.turn_run);
             assert_eq!(one.timed_run, other.timed_run);
+            assert_eq!(one.listing_rooms, other.listing_rooms);
         }
         assert_ne!(case(7, 0).file, case(8, 0).file);
     }

@@ -21,6 +21,7 @@ pub mod samples;
 pub mod side_by_side;
 pub mod timed;
 pub mod turns;
+pub mod vectors;
 pub mod write;
 pub mod zero_delay;
 

@@ -21,6 +21,7 @@ pub enum Call {
     Check,
     Turns,
     Timed,
+    List,
 }
 
 impl Call {
@@ -33,6 +34,7 @@ impl Call {
         Call::Check,
         Call::Turns,
         Call::Timed,
+        Call::List,
     ];
 
     pub fn name(self) -> &'static str {
@@ -45,6 +47,7 @@ impl Call {
             Call::Check => "check",
             Call::Turns => "turns",
             Call::Timed => "timed",
+            Call::List => "list",
         }
     }
 }
@@ -107,6 +110,7 @@ pub fn all_calls(case: &Case) -> Vec<Outcome> {
     outcomes.extend(case.given.iter().map(|given| check(file, given)));
     outcomes.push(turns(file, &case.turn_run));
     outcomes.push(timed(file, &case.timed_run));
+    outcomes.extend(case.listing_rooms.iter().map(|&room| list(file, room)));
     outcomes
 }
 
@@ -221,4 +225,15 @@ fn timed(file: &[u8], timed_run: &TimedRun) -> Outcome {
     let (lent_durations, durations) = (&lent_run.durations, &timed_run.durations);
     memory.extend(of_memory("durations", 0, lent_durations, durations));
     outcome(Call::Timed, &library, &second, memory)
+}
+
+fn list(file: &[u8], room: usize) -> Outcome {
+    let lent_file = file.to_vec();
+    let mut library_out = patterned(room, byte_pattern);
+    let mut second_out = library_out.clone();
+    let library = fppn::list(&lent_file, lent(&mut library_out));
+    let second = as_library::list(file, lent(&mut second_out));
+    let mut memory = of_memory("out", GUARD, &library_out, &second_out);
+    memory.extend(of_memory("file", 0, &lent_file, file));
+    outcome(Call::List, &library, &second, memory)
 }

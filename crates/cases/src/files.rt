@@ -123,7 +123,7 @@ fn frames() {
 // Network K as it is read and written again.
 fn written() {
     let k = K;
-    let loaded = network::read(&k);
+    let loaded = reader::read(&k);
     let net = loaded.network;
     let mut exact = [0xEEu8; 67];
     write(b"K into 67 bytes", net, &mut exact);
@@ -171,7 +171,7 @@ fn refused(net: Network) {
 pub fn read(label: &[u8], file: &[u8]) {
     print::text(label);
     print::text(b": ");
-    let loaded = network::read(file);
+    let loaded = reader::read(file);
     let answer = loaded.answer;
     let reply = answer.reply;
     if reply::number(reply) == 0 {
@@ -188,6 +188,19 @@ pub fn read(label: &[u8], file: &[u8]) {
 }
 
 pub fn write(label: &[u8], net: Network, out: &mut [u8]) {
+    written_as(label, net, out);
+    print::ends(out);
+    print::text(b"\n");
+}
+
+pub fn write_all(label: &[u8], net: Network, out: &mut [u8]) {
+    written_as(label, net, out);
+    print::bytes(out);
+    print::text(b"\n");
+}
+
+// The line of a write, but for the bytes.
+fn written_as(label: &[u8], net: Network, out: &mut [u8]) {
     print::text(label);
     print::text(b": ");
     let written = writer::write(net, out);
@@ -200,6 +213,4 @@ pub fn write(label: &[u8], net: Network, out: &mut [u8]) {
         print::refusal(reply, answer.place);
         print::text(b",");
     }
-    print::ends(out);
-    print::text(b"\n");
 }

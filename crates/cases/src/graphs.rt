@@ -98,7 +98,7 @@ fn long_frames() {
 }
 
 // The counts of a file's graph, and of a small one the jobs' processes and the edges too.
-fn show(label: &[u8], file: &[u8]) {
+pub fn show(label: &[u8], file: &[u8]) {
     print::text(label);
     print::text(b": ");
     let shown = graph::graph(file);

@@ -3,6 +3,7 @@
 mod files;
 mod graphs;
 mod lent;
+mod listings;
 mod longest;
 mod numbers;
 mod plans;
@@ -11,6 +12,7 @@ mod ran;
 mod runs;
 mod times;
 mod turn_runs;
+mod vectors;
 
 fn main() {
     numbers::run();
@@ -21,4 +23,6 @@ fn main() {
     plans::run();
     turn_runs::run();
     times::run();
+    listings::run();
+    vectors::run();
 }

@@ -107,7 +107,7 @@ fn first_faults() {
     show_check(b"budgets 10, 5 and 5, job 2 over job 0", &file, 2, &far);
 }
 
-fn show_plan(label: &[u8], file: &[u8], processors: u32, out: &mut [u32]) {
+pub fn show_plan(label: &[u8], file: &[u8], processors: u32, out: &mut [u32]) {
     print::text(label);
     let answer = plan::plan(file, processors, out);
     let reply = answer.reply;
@@ -119,7 +119,7 @@ fn show_plan(label: &[u8], file: &[u8], processors: u32, out: &mut [u32]) {
     print::text(b"\n");
 }
 
-fn show_check(label: &[u8], file: &[u8], processors: u32, plan: &[u32]) {
+pub fn show_check(label: &[u8], file: &[u8], processors: u32, plan: &[u32]) {
     print::text(label);
     let answer = plan::check(file, processors, plan);
     let reply = answer.reply;

@@ -56,7 +56,7 @@ fn shown(length: usize) -> usize {
 
 // Of the file's channels what they hold, and the variables of its processes.
 fn state(file: &[u8], channels: [Held; 16], variables: [u32; 96]) {
-    let loaded = network::read(file);
+    let loaded = reader::read(file);
     let network = loaded.network;
     all_held(channels, network.channel_count as usize);
     all_variables(variables, network.process_count as usize);

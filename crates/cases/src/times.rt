@@ -199,7 +199,7 @@ fn short_words() {
     );
 }
 
-fn show(
+pub fn show(
     label: &[u8],
     file: &[u8],
     processors: u32,

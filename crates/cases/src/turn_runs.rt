@@ -331,7 +331,7 @@ fn bad_words() {
     show(b"a bad turn", &k, 2, 1, &ONE, &INPUT, &turns, &mut out);
 }
 
-fn show(
+pub fn show(
     label: &[u8],
     file: &[u8],
     processors: u32,

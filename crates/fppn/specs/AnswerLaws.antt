@@ -13,13 +13,15 @@ use Rattle.graph.specs.declared.Job.{Job}
 use Rattle.graph.specs.declared.PrecedenceGraph.{PrecedenceGraph}
 use Rattle.zero_delay.specs.declared.Ran.{Ran}
 use Rattle.turns.specs.declared.TurnRan.{TurnRan}
-use Rattle.fppn.specs.Answers.{loadedFrom, writtenFrom, graphFrom, ranFrom, turnedFrom, answerFrom}
+use Rattle.listing.specs.declared.Listed.{Listed}
+use Rattle.fppn.specs.Answers.{loadedFrom, writtenFrom, graphFrom, ranFrom, turnedFrom, answerFrom, listedFrom}
 use Rattle.fppn.specs.declared.FppnLoaded.{FppnLoaded}
 use Rattle.fppn.specs.declared.FppnWritten.{FppnWritten}
 use Rattle.fppn.specs.declared.FppnGraphResult.{FppnGraphResult}
 use Rattle.fppn.specs.declared.FppnRan.{FppnRan}
 use Rattle.fppn.specs.declared.FppnTurned.{FppnTurned}
 use Rattle.fppn.specs.declared.FppnAnswer.{FppnAnswer}
+use Rattle.fppn.specs.declared.FppnListed.{FppnListed}
 
 pub loaded-is : (l : Loaded) {told : Loaded} {n : ℕ} → l ≡ told → n ≡ replyNumber (l .answer .reply)
     → _≡_ {A = FppnLoaded} (record { reply = n; place = l .answer .place; network = l .network }) (loadedFrom told)
@@ -84,3 +86,8 @@ pub turned-is : (t : TurnRan) {told : TurnRan} {n : ℕ} → t ≡ told → n �
     (turnedFrom told)
 unfolding turnedFrom
 turned-is t e f = rw f (ap turnedFrom e)
+
+pub listed-is : (l : Listed) {told : Listed} {n : ℕ} → l ≡ told → n ≡ replyNumber (l .answer .reply)
+    → _≡_ {A = FppnListed} (record { reply = n; place = l .answer .place; length = l .length }) (listedFrom told)
+unfolding listedFrom
+listed-is l e f = rw f (ap listedFrom e)

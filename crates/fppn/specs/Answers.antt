@@ -8,12 +8,14 @@ use Rattle.graph.specs.declared.Job.{Job}
 use Rattle.graph.specs.declared.PrecedenceGraph.{PrecedenceGraph}
 use Rattle.zero_delay.specs.declared.Ran.{Ran}
 use Rattle.turns.specs.declared.TurnRan.{TurnRan}
+use Rattle.listing.specs.declared.Listed.{Listed}
 use Rattle.fppn.specs.declared.FppnLoaded.{FppnLoaded}
 use Rattle.fppn.specs.declared.FppnWritten.{FppnWritten}
 use Rattle.fppn.specs.declared.FppnGraphResult.{FppnGraphResult}
 use Rattle.fppn.specs.declared.FppnRan.{FppnRan}
 use Rattle.fppn.specs.declared.FppnTurned.{FppnTurned}
 use Rattle.fppn.specs.declared.FppnAnswer.{FppnAnswer}
+use Rattle.fppn.specs.declared.FppnListed.{FppnListed}
 
 unfoldable pub loadedFrom : Loaded → FppnLoaded
 loadedFrom l = record { reply = replyNumber (l .answer .reply); place = l .answer .place; network = l .network }
@@ -52,3 +54,6 @@ turnedFrom t = record {
   variables = t .variables;
   channels = t .channels;
 }
+
+unfoldable pub listedFrom : Listed → FppnListed
+listedFrom l = record { reply = replyNumber (l .answer .reply); place = l .answer .place; length = l .length }

@@ -10,10 +10,11 @@ ghost use Rattle.graph.specs.Graph.{graphFile};
 ghost use Rattle.reply.specs.Result.{answerOf};
 ghost use Rattle.plan.specs.Plan.{planCall, planFilled, checkCall};
 ghost use Rattle.timed.specs.Timed.{timedCall, timedFilled};
+ghost use Rattle.listing.specs.Listing.{listCall, listedOf, listFilled};
 ghost use Rattle.zero_delay.specs.ZeroDelay.{zeroDelay, ranOf, filledBy};
 ghost use Rattle.promises.specs.Turns.{turnCall};
 ghost use Rattle.turns.specs.Turned.{turnedOf, turnFilled};
-ghost use Rattle.fppn.specs.Answers.{loadedFrom, writtenFrom, graphFrom, ranFrom, turnedFrom, answerFrom};
+ghost use Rattle.fppn.specs.Answers.{loadedFrom, writtenFrom, graphFrom, ranFrom, turnedFrom, answerFrom, listedFrom};
 
 // The network of a file, all zero when it is refused.
 #[repr(C)]
@@ -69,6 +70,14 @@ pub struct FppnTurned {
     pub channels: [Held; 16],
 }
 
+// How many bytes of text were filled.
+#[repr(C)]
+pub struct FppnListed {
+    pub reply: u32,
+    pub place: usize,
+    pub length: usize,
+}
+
 // An answer that has no more to tell.
 #[repr(C)]
 pub struct FppnAnswer {
@@ -81,7 +90,7 @@ pub struct FppnAnswer {
 pub extern "C" fn fppn_read(file: &[u8]) -> FppnLoaded
     ensures { λ r. ⌜ r ≡ loadedFrom (readFile (now (file .entry))) ⌝ }
 {
-    let loaded = network::read(file);
+    let loaded = reader::read(file);
     let network = loaded.network;
     let answer = loaded.answer;
     let reply = answer.reply;
@@ -236,5 +245,21 @@ pub extern "C" fn fppn_timed(
     FppnAnswer {
         reply: reply::number(reply),
         place: told.place,
+    }
+}
+
+// The lister's text of a file, planned for two processors, to the front of the lent bytes.
+#[no_mangle]
+pub extern "C" fn fppn_list(file: &[u8], out: &mut [u8]) -> FppnListed
+    ensures { λ r. ⌜ r ≡ listedFrom (listedOf (listCall (now (file .entry)) (now (out .entry)))) ⌝ }
+    ensures { λ _. ⌜ now (out .exit) ≡ listFilled (listCall (now (file .entry)) (now (out .entry))) (now (out .entry)) ⌝ }
+{
+    let listed = listing::list(file, out);
+    let answer = listed.answer;
+    let reply = answer.reply;
+    FppnListed {
+        reply: reply::number(reply),
+        place: listed.answer.place,
+        length: listed.length,
     }
 }

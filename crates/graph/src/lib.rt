@@ -73,7 +73,7 @@ fn frame_work(network: Network) -> Framed
 pub fn frame(file: &[u8]) -> Framed
     ensures { λ r. ⌜ r ≡ frameFile (now (file .entry)) ⌝ }
 {
-    let loaded = network::read(file);
+    let loaded = reader::read(file);
     let answer = loaded.answer;
     let network = loaded.network;
     let reply = answer.reply;
@@ -124,7 +124,7 @@ fn graph_work(network: Network) -> PrecedenceGraph
 pub fn graph(file: &[u8]) -> PrecedenceGraph
     ensures { λ r. ⌜ r ≡ graphFile (now (file .entry)) ⌝ }
 {
-    let loaded = network::read(file);
+    let loaded = reader::read(file);
     let answer = loaded.answer;
     let network = loaded.network;
     let reply = answer.reply;

@@ -1,4 +1,5 @@
 mod JobLoop
 mod SampleLoop
+mod ValuesLoop
 mod KindsLoop
 mod HeldLoops

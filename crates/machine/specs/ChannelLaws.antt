@@ -146,7 +146,6 @@ set-at values at value k h = elim (ℕ-discrete at k) [
 ]
 
 placed-set : (values : List ℕ) (at value : ℕ) → length values ≡ 8 → placed values at value ≡ set values at value
-unfolding table
 placed-set values at value e =
     table-same 8 (λ k. cond (eqb at k) value (getD values k 0)) (λ k. getD (set values at value) k 0) (λ k h. set-at values at value k (omega arith))
     ∙ table-list (set values at value) 8 (length-set values at value ∙ e)

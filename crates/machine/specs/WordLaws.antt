@@ -5,17 +5,18 @@ use mathlib.Core.Logic.{_≢_, _⊎_, inl, inr}
 use mathlib.Core.List.{List, [], _∷_, _++_}
 use native.Mathlib.Decide.{decLt, ℕ-discrete}
 use native.Mathlib.Nat.{add-zero, add-suc, suc-add}
-use native.Mathlib.Numerals.{unary-clauses}
+use native.Mathlib.Numerals.{add-one}
 use native.Mathlib.Omega.{arith}
 use lib.ListN.{length, getD, set, length-set, length-append, List·getD-append}
 use lib.Seq.{sets, length-sets, ext-getD, getD-set-same, getD-set-other, getD-append-add}
+use Rattle.number.specs.PutLaws.{sets-append}
 use Rattle.network.specs.Lists.{table}
 use Rattle.network.specs.ListLaws.{length-table, getD-table}
 use Rattle.network.specs.ChainsSame.{table-same}
 use Rattle.machine.specs.State.{Contents, nothing}
 use Rattle.machine.specs.ChannelLaws.{table-list}
 use Rattle.machine.specs.ChannelTold.{Sound, contentsBy, TakenFrom, PutInto}
-use Rattle.machine.specs.Words.{channelAt, numbersOf, stored, channelFrom, storedFrom, contentsIn, SoundWords, ReadFrom, WrittenTo}
+use Rattle.machine.specs.Words.{channelAt, numbersOf, stored, contentsIn, SoundWords, ReadFrom, WrittenTo}
 use Rattle.machine.specs.declared.Channel.{Channel}
 use Rattle.machine.specs.declared.channels.Taken.{Taken}
 
@@ -33,28 +34,36 @@ sets-inside (v ∷ vs) l i (suc k) h b = rw (add-suc i k, ← suc-add i k) (sets
 
 -- ---- number by number
 
-pub loaded-is : (words : List ℕ) (i : ℕ) → channelFrom words (i * 12) ≡ channelAt words i
-unfolding channelAt table
-loaded-is words i = rw (add-zero (i * 12))
+-- the numbers of a table, stored one after another
+pub stored-more : (words : List ℕ) (at : ℕ) (f : ℕ → ℕ) (k : ℕ) → set (sets words at (table k f)) (at + k) (f k) ≡ sets words at (table (k + 1) f)
+unfolding table
+stored-more words at f k = rw (add-one k, sets-append words at (table k f) (f k ∷ []), length-table k f)
 
--- a channel's numbers, the values one by one
-abbrev oneByOne : Channel → List ℕ
-oneByOne c =
-    getD (c .values) 0 0 ∷ getD (c .values) 1 0 ∷ getD (c .values) 2 0 ∷ getD (c .values) 3 0
-    ∷ getD (c .values) 4 0 ∷ getD (c .values) 5 0 ∷ getD (c .values) 6 0 ∷ getD (c .values) 7 0
-    ∷ c .head ∷ c .length ∷ c .loss ∷ []
+pub loaded-is : (words : List ℕ) (i : ℕ) {values : List ℕ} → values ≡ table 8 (λ k. getD words (i * 12 + k) 0)
+    → record {
+      values = values;
+      head = getD words (i * 12 + 8) 0;
+      length = getD words (i * 12 + 9) 0;
+      loss = getD words (i * 12 + 10) 0;
+    }
+    ≡ channelAt words i
+unfolding channelAt
+loaded-is words i e = rw e
 
-nested : (words : List ℕ) (at : ℕ) (c : Channel) → storedFrom words at c ≡ sets words at (oneByOne c)
-nested words at c =
-    let nine : at + 9 ≡ suc (at + 8) = omega arith in
-    let ten : at + 10 ≡ suc (suc (at + 8)) = omega arith in
-    simp (nine, ten, unary-clauses)
-
-pub stored-is : (words : List ℕ) (i : ℕ) (c : Channel) → Sound c → storedFrom words (i * 12) c ≡ stored words i c
-unfolding stored table
-stored-is words i c s =
-    nested words (i * 12) c
-    ∙ ap (λ (vs : List ℕ). sets words (i * 12) (vs ++ (c .head ∷ c .length ∷ c .loss ∷ []))) (table-list (c .values) 8 (s .places))
+pub stored-is : (words : List ℕ) {after : List ℕ} (i : ℕ) (c : Channel) → Sound c → after ≡ sets words (i * 12) (table 8 (λ k. getD (c .values) k 0))
+    → set (set (set after (i * 12 + 8) (c .head)) (i * 12 + 9) (c .length)) (i * 12 + 10) (c .loss) ≡ stored words i c
+unfolding stored
+stored-is words i c s e =
+    let nine : i * 12 + 9 ≡ suc (i * 12 + 8) = omega arith in
+    let ten : i * 12 + 10 ≡ suc (suc (i * 12 + 8)) = omega arith in
+    rw (
+      nine,
+      ten,
+      e,
+      table-list (c .values) 8 (s .places),
+      sets-append words (i * 12) (c .values) (c .head ∷ c .length ∷ c .loss ∷ []),
+      s .places,
+    )
 
 -- ---- what is loaded after a store
 

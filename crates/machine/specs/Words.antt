@@ -50,27 +50,3 @@ pub record ReadFrom (i kind : ℕ) (words after : List ℕ) (r : Value) : Type 0
 pub record WrittenTo (i kind capacity value : ℕ) (words after : List ℕ) : Type 0 where
   pub sound : SoundWords after
   pub contents : contentsIn after ≡ set (contentsIn words) i (afterWrite kind capacity value (getD (contentsIn words) i nothing))
-
--- ---- the same, number by number, from a place on
-
-abbrev pub channelFrom : List ℕ → ℕ → Channel
-channelFrom words at = record {
-  values =
-      getD words at 0 ∷ getD words (at + 1) 0 ∷ getD words (at + 2) 0 ∷ getD words (at + 3) 0
-      ∷ getD words (at + 4) 0 ∷ getD words (at + 5) 0 ∷ getD words (at + 6) 0 ∷ getD words (at + 7) 0 ∷ [];
-  head = getD words (at + 8) 0;
-  length = getD words (at + 9) 0;
-  loss = getD words (at + 10) 0;
-}
-
-abbrev pub storedFrom : List ℕ → ℕ → Channel → List ℕ
-storedFrom words at c =
-    let v0 = set words at (getD (c .values) 0 0) in
-    let v1 = set v0 (at + 1) (getD (c .values) 1 0) in
-    let v2 = set v1 (at + 2) (getD (c .values) 2 0) in
-    let v3 = set v2 (at + 3) (getD (c .values) 3 0) in
-    let v4 = set v3 (at + 4) (getD (c .values) 4 0) in
-    let v5 = set v4 (at + 5) (getD (c .values) 5 0) in
-    let v6 = set v5 (at + 6) (getD (c .values) 6 0) in
-    let v7 = set v6 (at + 7) (getD (c .values) 7 0) in
-    set (set (set v7 (at + 8) (c .head)) (at + 9) (c .length)) (at + 10) (c .loss)

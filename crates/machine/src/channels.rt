@@ -56,16 +56,14 @@ fn pick(at: u32, place: u32, new: u32, old: u32) -> u32
 fn with_value(values: [u32; 8], at: u32, value: u32) -> [u32; 8]
     ensures { λ r. ⌜ r ≡ placed values at value ⌝ }
 {
-    [
-        pick(at, 0, value, values[0]),
-        pick(at, 1, value, values[1]),
-        pick(at, 2, value, values[2]),
-        pick(at, 3, value, values[3]),
-        pick(at, 4, value, values[4]),
-        pick(at, 5, value, values[5]),
-        pick(at, 6, value, values[6]),
-        pick(at, 7, value, values[7]),
-    ]
+    let mut written = [0u32; 8];
+    let mut k = 0u32;
+    while k < 8 {
+        let place = k as usize;
+        written[place] = pick(at, k, value, values[place]);
+        k += 1;
+    }
+    written
 }
 
 // A board has the value in place of its last; a queue has it after all others, or is full and counts a loss.

@@ -2,11 +2,13 @@
 use crate::Channel;
 use crate::channels;
 ghost use mathlib.Core.Path.{_≡_};
-ghost use Prim.Native.Nat.{_≤_, _<_};
+ghost use Prim.Native.Nat.{_+_, _≤_, _<_};
 ghost use lib.ListN.{getD};
+ghost use lib.Seq.{sets};
+ghost use Rattle.network.specs.Lists.{table};
 ghost use Rattle.machine.specs.State.{nothing};
 ghost use Rattle.machine.specs.ChannelTold.{Sound};
-ghost use Rattle.machine.specs.Words.{channelFrom, channelAt, storedFrom, stored, contentsIn, SoundWords, ReadFrom, WrittenTo};
+ghost use Rattle.machine.specs.Words.{channelAt, stored, contentsIn, SoundWords, ReadFrom, WrittenTo};
 
 // What a read gives: with nothing there both are 0.
 pub struct Value {
@@ -14,45 +16,30 @@ pub struct Value {
     pub flag: u32,
 }
 
-// The channel at a place.
-fn load_from(words: &[u32; 192], at: usize) -> Channel
-    requires { ⌜ at ≤ 180 ⌝ }
-    ensures { λ r. ⌜ r ≡ channelFrom (now (words .entry)) at ⌝ }
+// The eight numbers from a place on.
+fn load_values(words: &[u32; 192], at: usize) -> [u32; 8]
+    requires { ⌜ at ≤ 184 ⌝ }
+    ensures { λ r. ⌜ r ≡ table 8 (λ k. getD (now (words .entry)) (at + k) 0) ⌝ }
 {
-    Channel {
-        values: [
-            words[at],
-            words[at + 1],
-            words[at + 2],
-            words[at + 3],
-            words[at + 4],
-            words[at + 5],
-            words[at + 6],
-            words[at + 7],
-        ],
-        head: words[at + 8],
-        length: words[at + 9],
-        loss: words[at + 10],
+    let mut values = [0u32; 8];
+    let mut k = 0usize;
+    while k < 8 {
+        values[k] = words[at + k];
+        k += 1;
     }
+    values
 }
 
-// Puts a channel at a place.
-fn store_from(words: &mut [u32; 192], at: usize, channel: Channel)
-    requires { ⌜ at ≤ 180 ⌝ }
-    ensures { λ _. ⌜ now (words .exit) ≡ storedFrom (now (words .entry)) at channel ⌝ }
+// Puts eight numbers from a place on.
+fn store_values(words: &mut [u32; 192], at: usize, values: [u32; 8])
+    requires { ⌜ at ≤ 184 ⌝ }
+    ensures { λ _. ⌜ now (words .exit) ≡ sets (now (words .entry)) at (table 8 (λ k. getD values k 0)) ⌝ }
 {
-    let values = channel.values;
-    words[at] = values[0];
-    words[at + 1] = values[1];
-    words[at + 2] = values[2];
-    words[at + 3] = values[3];
-    words[at + 4] = values[4];
-    words[at + 5] = values[5];
-    words[at + 6] = values[6];
-    words[at + 7] = values[7];
-    words[at + 8] = channel.head;
-    words[at + 9] = channel.length;
-    words[at + 10] = channel.loss;
+    let mut k = 0usize;
+    while k < 8 {
+        words[at + k] = values[k];
+        k += 1;
+    }
 }
 
 // Channel i.
@@ -60,7 +47,14 @@ pub fn load(words: &[u32; 192], i: usize) -> Channel
     requires { ⌜ i < 16 ⌝ }
     ensures { λ r. ⌜ r ≡ channelAt (now (words .entry)) i ⌝ }
 {
-    load_from(words, i * 12)
+    let at = i * 12;
+    let values = load_values(words, at);
+    Channel {
+        values,
+        head: words[at + 8],
+        length: words[at + 9],
+        loss: words[at + 10],
+    }
 }
 
 // Puts channel i.
@@ -68,7 +62,12 @@ pub fn store(words: &mut [u32; 192], i: usize, channel: Channel)
     requires { ⌜ (i < 16) × Sound channel ⌝ }
     ensures { λ _. ⌜ now (words .exit) ≡ stored (now (words .entry)) i channel ⌝ }
 {
-    store_from(words, i * 12, channel);
+    let at = i * 12;
+    let values = channel.values;
+    store_values(words, at, values);
+    words[at + 8] = channel.head;
+    words[at + 9] = channel.length;
+    words[at + 10] = channel.loss;
 }
 
 // Reads channel i.

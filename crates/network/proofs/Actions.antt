@@ -1,41 +1,16 @@
--- One action: its four numbers, the judgement of them kind by kind, and their four stores.
-use Prim.Native.Nat.{ℕ, suc, _+_, _-_, _≤_, _<_}
-use mathlib.Core.Path.{_≡_, refl, sym}
+-- One action: the judgement of it, kind by kind.
+use Prim.Native.Nat.{ℕ, _+_, _-_, _≤_, _<_}
+use mathlib.Core.Path.{_≡_, refl}
 use mathlib.Core.Bool.{Bool, true, false, _&&_}
-use mathlib.Core.List.{List, [], _∷_}
+use mathlib.Core.List.{List}
 use native.Mathlib.Omega.{arith}
 use borrow.Author.Tests.{ne-eqb, leb-true, le-leb}
 use lib.Dec.{leb, eqb}
-use lib.ListN.{set}
-use lib.Seq.{sets}
 use Rattle.reply.specs.Tests.{same-test}
-use Rattle.number.specs.Parts.{reading}
-use Rattle.number.specs.Number.{numberAt}
-use Rattle.number.specs.Told.{numberOf}
-use Rattle.number.specs.declared.Number.{Number}
 use Rattle.network.specs.Read.{isVar, isZero, isRead, isWritten, isSkip, goodAction}
-use Rattle.network.specs.Told.{asResult, valueOf}
-use Rattle.network.specs.ProgramsTold.{fourPart, fourNumbers, Named, Judged}
+use Rattle.network.specs.ProgramsTold.{Named, Judged}
 use Rattle.network.specs.declared.Channel.{Channel}
 use Rattle.network.specs.declared.Four.{Four}
-use Rattle.network.proofs.InTurn.{four}
-
--- ---- the four numbers
-
-module _ (file : List ℕ) (at : ℕ) where
-  pub four-told : (a b c d : Number) → a ≡ numberOf (numberAt file at) → b ≡ numberOf (reading (asResult a) λ v n. numberAt file n)
-      → c ≡ numberOf (reading (asResult b) λ v n. numberAt file n) → d ≡ numberOf (reading (asResult c) λ v n. numberAt file n)
-      → (reading (asResult d) λ v n. fourPart (valueOf a) (valueOf b) (valueOf c) (valueOf d) n) ≡ fourNumbers file at
-  unfolding fourNumbers
-  four-told a b c d ea eb ec ed =
-      sym (four (numberAt file at) (numberAt file) (λ v n. numberAt file n) (λ v w n. numberAt file n) fourPart a b c d ea eb ec ed)
-
-pub four-stores : (l : List ℕ) (at w x y z : ℕ) → set (set (set (set l at w) (at + 1) x) (at + 2) y) (at + 3) z ≡ sets l at (w ∷ x ∷ y ∷ z ∷ [])
-four-stores l at w x y z =
-    let one : at + 1 ≡ suc at = omega arith in
-    let two : at + 2 ≡ suc (suc at) = omega arith in
-    let three : at + 3 ≡ suc (suc (suc at)) = omega arith in
-    rw (one, two, three)
 
 -- ---- skips
 

@@ -1,16 +1,6 @@
-mod Ranges
-mod InTurn
-mod Loop
-mod Records
-mod PairRows
 mod Ends
-mod Tails
 mod Multiples
 mod FrameLoops
 mod RowSteps
 mod Actions
-mod ActionLoop
 mod PairMarks
-mod ProgramLoop
-mod WholeFile
-mod EntryPoints

@@ -1,23 +1,18 @@
-// The network file and its reader. And of a network its frame's length, and which process comes before which.
+// The network of a file, and the rules that its reader and its writer share. And of a network its frame's length, and which process comes before which.
 mod ahead;
 pub mod channels;
 pub mod cycles;
 pub mod frame;
 pub mod numbers;
 pub mod pairs;
-mod processes;
 pub mod programs;
-mod reading;
 
 use marks::Row;
-use number::Number;
 use reply::Answer;
-use reply::Reply;
 ghost use mathlib.Core.Path.{_≡_};
 ghost use Rattle.network.specs.Frame.{frameLength};
 ghost use Rattle.network.specs.Net.{within};
 ghost use Rattle.network.specs.AheadTold.{AheadTold};
-ghost use Rattle.network.specs.Read.{readFile};
 
 // One process: its period, the jobs it releases each time, and each job's relative deadline and budget, in ticks.
 #[repr(C)]
@@ -74,24 +69,6 @@ pub struct Loaded {
 pub struct Written {
     pub answer: Answer,
     pub length: usize,
-}
-
-// The network of a file.
-pub fn read(file: &[u8]) -> Loaded
-    ensures { λ r. ⌜ r ≡ readFile (now (file .entry)) ⌝ }
-{
-    match number::read_number(file, 0) {
-        Number::Value { value, next } => {
-            if value == 1 {
-                return reading::after_version(file, next);
-            }
-            reading::refused(Answer {
-                reply: Reply::WrongVersion,
-                place: 0,
-            })
-        }
-        Number::Refused { reply, place } => reading::refused(Answer { reply, place }),
-    }
 }
 
 // The length of the frame of a network, 2001 if it is above 2000.

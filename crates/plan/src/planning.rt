@@ -39,7 +39,7 @@ fn can_place(placed: Row, row: Row, j: usize) -> bool
 }
 
 // One more than the job to place next: of those that can be placed that of least deadline, then of least number; 0 if there is none.
-pub fn choose(
+fn choose(
     deadlines: &[u32; 128],
     lows: &[u64; 128],
     highs: &[u64; 128],

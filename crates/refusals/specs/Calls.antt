@@ -27,6 +27,7 @@ use Rattle.plan.specs.Promise.{planner-size}
 use Rattle.timed.specs.Timed.{timedCall}
 use Rattle.timed.specs.TimedLaws.{computed}
 use Rattle.timed.specs.Promise.{ordered-by, DoneBy, call-done}
+use Rattle.listing.specs.Listing.{listingText, listed, listCall}
 use Rattle.refusals.specs.Refusals.{jobsIn}
 use Rattle.refusals.specs.RefusalLaws.{Fills}
 use Rattle.refusals.specs.Steps.{after-processors, after-frames, after-room, after-file, jobs-of}
@@ -103,6 +104,22 @@ module _ (file : List ℕ) (m : ℕ) (out : List ℕ) where
         long = rw is (planner-size net valid m some words (rw is at e₃));
         there = leb-true _ _ room;
       })
+
+-- ---- the lister
+
+module _ (file out : List ℕ) where
+  pub honest-list-call : Honest (listCall file out)
+  unfolding listCall listed
+  honest-list-call =
+      honest-then (listed file) _ (after-file file λ w. honest-then (plannedBy w 2) _ (honest-planned w 2) λ plan. honest-done (listingText w plan)) λ text.
+      after-room (length text) out λ ok. honest-done text
+
+  pub list-fits : (text : List ℕ) → listCall file out ≡ done text → length text ≤ length out
+  unfolding listCall
+  list-fits text e =
+      accepted (listed file) _ text e λ t ok e₁.
+      required (leb (length t) (length out)) ShortBuffer 0 _ text e₁ λ fits e₂.
+      subst (λ (b : List ℕ). length b ≤ length out) (done-same e₂) (leb-true (length t) (length out) fits)
 
 -- ---- the checker
 

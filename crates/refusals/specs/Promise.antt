@@ -18,10 +18,11 @@ use Rattle.zero_delay.specs.ZeroDelay.{Sofar, zeroDelay, ranOf, filledBy}
 use Rattle.plan.specs.Plan.{planCall, planFilled, checkCall}
 use Rattle.timed.specs.Promise.{honest-call}
 use Rattle.timed.specs.Timed.{timedCall, timedFilled}
+use Rattle.listing.specs.Listing.{listCall, listedOf, listFilled}
 use Rattle.refusals.specs.Refusals.{Returns, NothingElse, Leaves, jobsIn}
 use Rattle.refusals.specs.RefusalLaws.{returns, leaves}
 use Rattle.refusals.specs.Zeros.{NoNetwork, NoFrame, NoGraph, NoRun}
-use Rattle.refusals.specs.Calls.{writing-fits, honest-zero-delay, zero-delay-fills, honest-plan-call, plan-fills, honest-check-call, timed-fills}
+use Rattle.refusals.specs.Calls.{writing-fits, honest-zero-delay, zero-delay-fills, honest-plan-call, plan-fills, honest-check-call, timed-fills, honest-list-call, list-fits}
 
 no-network : NoNetwork noNetwork
 no-network = record {
@@ -35,7 +36,7 @@ no-network = record {
   actions = refl;
 }
 
--- ---- network::read
+-- ---- reader::read
 
 pub read-careful : (file : List ℕ) → Returns (load file) (readFile file .answer) (NoNetwork (readFile file .network))
 unfolding readFile
@@ -123,4 +124,19 @@ module _ (file : List ℕ) (m : ℕ) (plan durations out : List ℕ) where
   timed-careful = (
     returns (λ r. NothingElse) times (honest-call file m plan durations out) (λ reply place. tt),
     leaves (λ (words : List ℕ). words) _ out times (honest-call file m plan durations out) (timed-fills file m plan durations out),
+  )
+
+-- ---- listing::list: a call that is done fills as many bytes as it returns
+
+module _ (file out : List ℕ) where
+  abbrev lists : Result (List ℕ)
+  lists = listCall file out
+
+  pub list-careful : Returns lists (listedOf lists .answer) (listedOf lists .length ≡ 0)
+      × Leaves (listedOf lists .answer) (listedOf lists .length) out (listFilled lists out)
+  unfolding listedOf listFilled
+  list-careful = (
+    returns (λ (r : Result (List ℕ)). listedOf r .length ≡ 0) lists (honest-list-call file out) (λ reply place. refl),
+    leaves (λ (text : List ℕ). text) (listedOf lists .length) out lists (honest-list-call file out) λ text e.
+        record { long = rw e; there = rw e (list-fits file out text e) },
   )

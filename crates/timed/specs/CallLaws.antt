@@ -30,7 +30,7 @@ use Rattle.plan.specs.CallLaws.{tabled}
 use Rattle.timed.specs.Timed.{durationOf, timesOf, okDurations, okTimed, timedWork, timedCall, timedFilled}
 use Rattle.timed.specs.PlannedOrder.{Ordered}
 use Rattle.timed.specs.TimedLaws.{computed, one-solution}
-use Rattle.timed.specs.TimedTold.{okWithin, StartsOf, lent, Timable, AllTimed, Admitted}
+use Rattle.timed.specs.TimedTold.{okWithin, lent, Timable, AllTimed, Admitted}
 use Rattle.timed.specs.Promise.{durations-short, honest-timed, ordered-by}
 
 -- a column of whatever table
@@ -145,7 +145,7 @@ module _ {framed : Framed} {plan durations : List ℕ} (A : Admitted framed plan
       accepted (checkedBy (workIn framed) (A .m) plan) (λ ok. okDurations (workIn framed) durations) tt (A .accepted) λ ok good short.
       durations-short (workIn framed) durations short
 
-  module _ {starts releases lows highs : List ℕ} (s : StartsOf plan (framed .«job_count») starts)
+  module _ {releases lows highs : List ℕ}
       (r : Column noJob (λ (j : Job). j .release) (framed .jobs) releases)
       (l : Column noMarks (λ (row : Row). row .low) (framed .before) lows)
       (h : Column noMarks (λ (row : Row). row .high) (framed .before) highs) where
@@ -154,12 +154,11 @@ module _ {framed : Framed} {plan durations : List ℕ} (A : Admitted framed plan
         (framed .«job_count») (A .m)
     T = tabled (A .frame) (any-column noJob _ (framed .jobs)) r (any-column noJob _ (framed .jobs)) l h (A .m) (A .some) (A .few)
 
-    pub timable : Timable (workIn framed) (A .m) (lent starts releases lows highs plan durations) (framed .«job_count»)
+    pub timable : Timable (workIn framed) (A .m) (lent releases lows highs plan durations) (framed .«job_count»)
     timable = record {
       ordered = in-order;
       short = λ j k. all-short j (omega (arith, T .count));
       count-is = T .count;
-      start-is = s .each;
       release-is = T .release-is;
       row-is = T .row-is;
       few = T .few;
@@ -170,7 +169,7 @@ module _ {framed : Framed} {plan durations : List ℕ} (A : Admitted framed plan
     }
 
     -- what keeps the rule is what is computed
-    pub times-are : {words : List ℕ} → AllTimed (lent starts releases lows highs plan durations) (framed .«job_count») words
+    pub times-are : {words : List ℕ} → AllTimed (lent releases lows highs plan durations) (framed .«job_count») words
         → take (2 * framed .«job_count») words ≡ timesOf (workIn framed) plan durations
     times-are told = one-solution in-order durations _ _ (told .is (workIn framed) (A .m) timable) (computed in-order durations)
 

@@ -1,34 +1,53 @@
 -- One step of the timed run on its tables: the job that is planned next gets its start and its end.
-use Prim.Native.Nat.{ℕ, suc, _+_, _-_, _*_, _≤_, _<_, max}
-use mathlib.Core.Path.{_≡_, refl, sym, ap, ap₂, subst, _∙_}
+use Prim.Native.Nat.{ℕ, suc, _+_, _*_, _%_, _≤_, _<_, max}
+use mathlib.Core.Path.{_≡_, sym, ap, ap₂, subst, _∙_}
 use mathlib.Core.Logic.{_≢_}
-use mathlib.Core.Bool.{true, false, cond, not}
+use mathlib.Core.Bool.{true, false, cond}
 use mathlib.Core.List.{List}
 use native.Mathlib.Decide.{ℕ-discrete, decLt}
 use native.Mathlib.Omega.{arith}
+use lib.Dec.{eqb}
 use lib.ListN.{getD, set, take, replicate, length-set, length-replicate}
 use lib.Seq.{getD-set-same, getD-set-other, length-take-le, getD-take}
-use borrow.Author.Tests.{not-true}
+use borrow.Author.Tests.{eqb-true, eq-eqb, ne-eqb}
 use Rattle.reply.specs.Tools.{all}
-use Rattle.reply.specs.Tests.{split, clash, both, both-true}
+use Rattle.reply.specs.Tests.{split, clash}
 use Rattle.reply.specs.AllAny.{all-true, all-false}
 use Rattle.reply.specs.Counts.{count-none, count-all, count-full, count-one-more}
-use Rattle.reply.specs.Pick.{Lowest, picked, some-picked}
-use Rattle.marks.specs.Row.{marked, noMarks, withOf}
-use Rattle.marks.specs.Laws.{marks-inside, marked-none, with-same, with-other}
+use Rattle.marks.specs.Row.{marked}
 use Rattle.marks.specs.declared.Row.{Row}
-use Rattle.graph.specs.Work.{Work, jobCountOf, precedes}
+use Rattle.graph.specs.Work.{Work, jobCountOf}
 use Rattle.network.specs.ListLaws.{getD-replicated}
 use Rattle.plan.specs.Greatest.{greatest}
 use Rattle.plan.specs.StartLaws.{ready-by}
 use Rattle.plan.specs.Plan.{processorAt, startAt, endAt, readyAt, startAfter}
-use Rattle.plan.specs.PlanTold.{canBy, rowAt, choiceBy, readyBy, Due}
+use Rattle.plan.specs.PlanTold.{rowAt, readyBy}
 use Rattle.timed.specs.Timed.{isEarlier, jobBefore, endBefore, startIs, durationOf, startIn, endIn, Timed}
 use Rattle.timed.specs.PlannedOrder.{Ordered, earlier-true, earlier-make, before-same, before-none, starts-early, starts-apart, before-is, start-same, starts-by}
-use Rattle.timed.specs.TimedTold.{Lent, Timable, Reached}
+use Rattle.timed.specs.TimedTold.{Lent, Timable, StartsSmall, KeysOf, LeastOf, isTimed, Reached}
 
-module _ {w : Work} {m : ℕ} {t : Lent} {n k : ℕ} {timed : Row} {ends last words : List ℕ}
-    (R : Reached w m t n k timed ends last words) (below : k < n) where
+-- ---- keys
+
+-- planned ends are not after the deadlines, which are small
+pub small-starts : {w : Work} {m : ℕ} {t : Lent} {n : ℕ} → Timable w m t n → StartsSmall (t .plan) n
+small-starts T = record {
+  few = T .few;
+  there = T .plan-there;
+  small = λ j h. omega (arith, T .ordered .feasible .in-time j (omega (arith, T .count-is)), T .small j h);
+}
+
+timed-key : (keys : List ℕ) (j : ℕ) → isTimed keys j ≡ true → getD keys j 0 ≡ 4294967295
+unfolding isTimed
+timed-key keys j e = eqb-true _ _ e
+
+key-untimed : (keys : List ℕ) (j : ℕ) → getD keys j 0 < 4294967295 → isTimed keys j ≡ false
+unfolding isTimed
+key-untimed keys j l = ne-eqb _ _ (λ (e : getD keys j 0 ≡ 4294967295). omega arith)
+
+-- ---- one step
+
+module _ {w : Work} {m : ℕ} {t : Lent} {n k : ℕ} {keys ends last words : List ℕ}
+    (R : Reached w m t n k keys ends last words) (below : k < n) where
   abbrev O : Ordered w m (t .plan)
   O = R .timable .ordered
 
@@ -40,57 +59,35 @@ module _ {w : Work} {m : ℕ} {t : Lent} {n k : ℕ} {timed : Row} {ends last wo
   -- job j is not timed, and no job that is not is planned before it
   pub record Next (j : ℕ) : Type 0 where
     pub low : j < n
-    pub untimed : marked timed j ≡ false
-    pub least : (i : ℕ) → i < n → marked timed i ≡ false → startAt (t .plan) j ≤ startAt (t .plan) i
+    pub untimed : isTimed keys j ≡ false
+    pub least : (i : ℕ) → i < n → isTimed keys i ≡ false → startAt (t .plan) j ≤ startAt (t .plan) i
 
-  earlier-timed : {j : ℕ} → Next j → (i : ℕ) → i < n → startAt (t .plan) i < startAt (t .plan) j → marked timed i ≡ true
-  earlier-timed N i h l = split (marked timed i) (λ e. e) (λ e. absurd (omega (arith, N .least i h e)))
+  earlier-timed : {j : ℕ} → Next j → (i : ℕ) → i < n → startAt (t .plan) i < startAt (t .plan) j → isTimed keys i ≡ true
+  earlier-timed N i h l = split (isTimed keys i) (λ e. e) (λ e. absurd (omega (arith, N .least i h e)))
 
-  some-untimed : (i : ℕ) × (i < n) × (marked timed i ≡ false)
-  some-untimed = split (all n (marked timed))
-      (λ e. absurd (omega (arith, R .number, count-all n (marked timed) (all-true n (marked timed) e))))
-      (λ e. all-false n (marked timed) e)
+  some-untimed : (i : ℕ) × (i < n) × (isTimed keys i ≡ false)
+  some-untimed = split (all n (isTimed keys))
+      (λ e. absurd (omega (arith, R .number, count-all n (isTimed keys) (all-true n (isTimed keys) e))))
+      (λ e. all-false n (isTimed keys) e)
 
-  -- the one planned first of those that are not timed
-  first-untimed : (j : ℕ) × Next j
-  first-untimed =
-      let (i, h, e) = some-untimed in
-      let (j, p) = some-picked (λ j. not (marked timed j)) (startAt (t .plan)) n i h (rw e refl) in
-      let L : Lowest (λ j. not (marked timed j)) (startAt (t .plan)) n j = picked _ _ n j p in
-      (j, record { low = L .below; untimed = not-true _ (L .passes); least = λ i h e. L .least i h (rw e refl) })
+  start-early : (j : ℕ) → j < n → startAt (t .plan) j ≤ 2000
+  start-early = small-starts (R .timable) .small
 
-  -- all that precede it are timed
-  next-can : (j : ℕ) → Next j → canBy timed (rowAt (t .lows) (t .highs) j) j ≡ true
-  next-can j N = both-true (not (marked timed j)) _ (rw (N .untimed) refl) (marks-inside (rowAt (t .lows) (t .highs) j) timed (λ i e. is-timed i (sym (R .timable .row-is i j (N .low)) ∙ e)))
-    where
-      is-timed : (i : ℕ) → precedes w i j ≡ true → marked timed i ≡ true
-      is-timed i e = earlier-timed N i (omega (arith, O .forward .within i j e .0, J)) (starts-early O i j e)
-
-  abbrev starts : ℕ → ℕ
-  starts j = getD (t .starts) j 0
-
-  pub some-choice : 1 ≤ choiceBy (t .starts) (t .lows) (t .highs) timed n
-  some-choice =
-      let (j, N) = first-untimed in
-      let (i, e) = some-picked (λ j. canBy timed (rowAt (t .lows) (t .highs) j) j) starts n j (N .low) (next-can j N) in
-      omega (arith, e)
-
-  pub starts-due : Due (t .starts) n
-  starts-due = record {
-    few = R .timable .few;
-    small = λ j h. omega (arith, R .timable .start-is j h, O .feasible .in-time j (omega (arith, J)), R .timable .small j h);
-  }
-
-  pub choice-next : (j : ℕ) → choiceBy (t .starts) (t .lows) (t .highs) timed n ≡ suc j → Next j
-  choice-next j e =
-      let L : Lowest (λ j. canBy timed (rowAt (t .lows) (t .highs) j) j) (λ j. getD (t .starts) j 0) n j = picked _ _ n j e in
-      let (u, N) = first-untimed in
-      record {
-        low = L .below;
-        untimed = not-true (marked timed j) (both (not (marked timed j)) _ (L .passes) .0);
-        least = λ i h f.
-            omega (arith, L .least u (N .low) (next-can u N), R .timable .start-is u (N .low), R .timable .start-is j (L .below), N .least i h f);
-      }
+  -- the job of least key
+  least-next : {key : ℕ} → LeastOf keys key → Next (key % 128)
+  least-next {key} L =
+      let (i, hi, untimed) = some-untimed in
+      let (j, hj, is) = L .one in
+      let small : key ≤ 256127 = omega (arith, L .least i (omega (arith, R .timable .few)), R .key-is i hi untimed, start-early i hi, R .timable .few) in
+      let low : j < n = elim (decLt j n) [ yes l ↦ l | no l ↦ absurd (omega (arith, R .no-key j (omega arith) hj)) ] in
+      let next : isTimed keys j ≡ false = split (isTimed keys j) (λ e. absurd (omega (arith, timed-key keys j e))) (λ e. e) in
+      let own = R .key-is j low next in
+      let job : key % 128 ≡ j = omega arith in
+      rw job (record {
+        low = low;
+        untimed = next;
+        least = λ i h e. omega (arith, L .least i (omega (arith, R .timable .few)), R .key-is i h e, R .timable .few);
+      })
 
   module _ {j : ℕ} (N : Next j) where
     abbrev row : Row
@@ -158,26 +155,31 @@ module _ {w : Work} {m : ℕ} {t : Lent} {n k : ℕ} {timed : Row} {ends last wo
     end-own : endIn words′ j ≡ en
     end-own = getD-set-same (set words (2 * j) st) (2 * j + 1) en 0 (omega (arith, length-set words (2 * j) st, R .words-size, N .low, R .timable .few))
 
-    abbrev timed′ : Row
-    timed′ = withOf timed j
+    abbrev keys′ : List ℕ
+    keys′ = set keys j 4294967295
 
-    timed-own : marked timed′ j ≡ true
-    timed-own = with-same timed j (omega (arith, N .low, R .timable .few))
+    timed-own : isTimed keys′ j ≡ true
+    unfolding isTimed
+    timed-own = eq-eqb _ _ (getD-set-same keys j 4294967295 0 (omega (arith, R .keys-size, N .low, R .timable .few)))
 
-    timed-other : (i : ℕ) → i ≢ j → marked timed′ i ≡ marked timed i
-    timed-other i d = with-other timed j i d
+    key-other : (i : ℕ) → i ≢ j → getD keys′ i 0 ≡ getD keys i 0
+    key-other i d = getD-set-other keys j i 4294967295 0 d
+
+    timed-other : (i : ℕ) → i ≢ j → isTimed keys′ i ≡ isTimed keys i
+    unfolding isTimed
+    timed-other i d = ap (λ (x : ℕ). eqb x 4294967295) (key-other i d)
 
     -- what is planned before a job that is timed now was timed already
-    earlier-other : (i x : ℕ) → i < n → x < n → marked timed′ x ≡ true → startAt (t .plan) i < startAt (t .plan) x → marked timed i ≡ true
+    earlier-other : (i x : ℕ) → i < n → x < n → isTimed keys′ x ≡ true → startAt (t .plan) i < startAt (t .plan) x → isTimed keys i ≡ true
     earlier-other i x hi hx e l = elim (ℕ-discrete x j) [
       | yes z ↦ earlier-timed N i hi (subst (λ y. startAt (t .plan) i < startAt (t .plan) y) z l)
       | no d ↦ R .down i x hi hx l (sym (timed-other x d) ∙ e)
     ]
 
-    not-it : (i : ℕ) → marked timed i ≡ true → i ≢ j
-    not-it i e z = clash (ap (marked timed) (sym z) ∙ e) (N .untimed)
+    not-it : (i : ℕ) → isTimed keys i ≡ true → i ≢ j
+    not-it i e z = clash (ap (isTimed keys) (sym z) ∙ e) (N .untimed)
 
-    starts-same : (x : ℕ) → x < n → marked timed′ x ≡ true → startIs w (t .plan) (endIn words) x ≡ startIs w (t .plan) (endIn words′) x
+    starts-same : (x : ℕ) → x < n → isTimed keys′ x ≡ true → startIs w (t .plan) (endIn words) x ≡ startIs w (t .plan) (endIn words′) x
     starts-same x h e = start-same O (endIn words) (endIn words′) x
         (λ i hi l. sym (end-other i (not-it i (earlier-other i x (omega (arith, J)) h e l))))
 
@@ -185,12 +187,12 @@ module _ {w : Work} {m : ℕ} {t : Lent} {n k : ℕ} {timed : Row} {ends last wo
     last′ = set last p en
 
     -- the job before a job that is next on its processor: job j, if that is on its processor; if not, it stays
-    last-then : (x : ℕ) → x < n → marked timed′ x ≡ false → ((i : ℕ) → i < n → isEarlier (t .plan) x i ≡ true → marked timed′ i ≡ true)
+    last-then : (x : ℕ) → x < n → isTimed keys′ x ≡ false → ((i : ℕ) → i < n → isEarlier (t .plan) x i ≡ true → isTimed keys′ i ≡ true)
         → getD last′ (processorAt (t .plan) x) 0 ≡ endBefore (endIn words′) (jobBefore w (t .plan) x)
     last-then x h e before = elim (ℕ-discrete x j) [
-      | yes z ↦ clash (ap (marked timed′) z ∙ timed-own) e
+      | yes z ↦ clash (ap (isTimed keys′) z ∙ timed-own) e
       | no d ↦
-          let un : marked timed x ≡ false = sym (timed-other x d) ∙ e in
+          let un : isTimed keys x ≡ false = sym (timed-other x d) ∙ e in
           elim (ℕ-discrete (processorAt (t .plan) x) p) [
             | yes same ↦
                 let first : startAt (t .plan) j < startAt (t .plan) x =
@@ -212,7 +214,7 @@ module _ {w : Work} {m : ℕ} {t : Lent} {n k : ℕ} {timed : Row} {ends last wo
         latest : (i : ℕ) → i < n → isEarlier (t .plan) x i ≡ true → startAt (t .plan) i ≤ startAt (t .plan) j
         latest i hi f = elim (ℕ-discrete i j) [
           | yes z ↦ subst (λ y. startAt (t .plan) y ≤ startAt (t .plan) j) (sym z) (omega arith)
-          | no d ↦ split (marked timed i)
+          | no d ↦ split (isTimed keys i)
               (λ e. elim (decLt (startAt (t .plan) j) (startAt (t .plan) i)) [
                 | yes l ↦ clash (R .down j i (N .low) hi l e) (N .untimed)
                 | no l ↦ omega arith
@@ -220,15 +222,21 @@ module _ {w : Work} {m : ℕ} {t : Lent} {n k : ℕ} {timed : Row} {ends last wo
               (λ e. clash (before i hi f) (timed-other i d ∙ e))
         ]
 
-    pub next-reached : Reached w m t n (suc k) (withOf timed j) (set ends j (startIs w (t .plan) (endIn words) j + durationOf (t .durations) j))
+    pub next-reached : Reached w m t n (suc k) (set keys j 4294967295) (set ends j (startIs w (t .plan) (endIn words) j + durationOf (t .durations) j))
         (set last (processorAt (t .plan) j) (startIs w (t .plan) (endIn words) j + durationOf (t .durations) j))
         (set (set words (2 * j) (startIs w (t .plan) (endIn words) j)) (2 * j + 1) (startIs w (t .plan) (endIn words) j + durationOf (t .durations) j))
     next-reached = record {
       timable = R .timable;
+      keys-size = simp length-set (R .keys-size);
       ends-size = simp length-set (R .ends-size);
       last-size = simp length-set (R .last-size);
       words-size = simp length-set (R .words-size);
-      number = count-one-more n (marked timed) (marked timed′) j (N .low) (N .untimed) timed-own timed-other ∙ omega (arith, R .number);
+      number = count-one-more n (isTimed keys) (isTimed keys′) j (N .low) (N .untimed) timed-own timed-other ∙ omega (arith, R .number);
+      key-is = λ x h e. elim (ℕ-discrete x j) [
+        | yes z ↦ clash (ap (isTimed keys′) z ∙ timed-own) e
+        | no d ↦ key-other x d ∙ R .key-is x h (sym (timed-other x d) ∙ e)
+      ];
+      no-key = λ x h l. key-other x (λ z. omega (arith, N .low)) ∙ R .no-key x h l;
       down = λ i x hi hx l e. let was = earlier-other i x hi hx e l in timed-other i (not-it i was) ∙ was;
       start = λ x h e. elim (ℕ-discrete x j) [
         | yes z ↦ subst (λ y. startIn words′ y ≡ startIs w (t .plan) (endIn words′) y) (sym z) (start-own ∙ starts-same j (N .low) timed-own)
@@ -251,51 +259,61 @@ module _ {w : Work} {m : ℕ} {t : Lent} {n k : ℕ} {timed : Row} {ends last wo
 
   -- ---- the same, by what is chosen
 
-  module _ {choice : ℕ} (is : choice ≡ choiceBy (t .starts) (t .lows) (t .highs) timed n) where
-    chosen : Next (choice - 1)
-    chosen = choice-next (choice - 1) (omega (arith, is, some-choice))
+  module _ {key : ℕ} (L : LeastOf keys key) where
+    chosen : Next (key % 128)
+    chosen = least-next L
 
-    pub chosen-processor : processorAt (t .plan) (choice - 1) < 4
+    pub chosen-low : key % 128 < n
+    chosen-low = chosen .low
+
+    pub chosen-processor : processorAt (t .plan) (key % 128) < 4
     chosen-processor = processor-low chosen
 
-    module _ {ready start : ℕ} (ready-at : ready ≡ readyBy ends (rowAt (t .lows) (t .highs) (choice - 1)) (choice - 1) (getD (t .releases) (choice - 1) 0))
-        (start-at : start ≡ max ready (getD last (processorAt (t .plan) (choice - 1)) 0)) where
-      starts-so : start ≡ startIs w (t .plan) (endIn words) (choice - 1)
-      starts-so = start-at ∙ ap (λ (x : ℕ). max x (getD last (processorAt (t .plan) (choice - 1)) 0)) ready-at ∙ start-is chosen
+    module _ {ready start : ℕ} (ready-at : ready ≡ readyBy ends (rowAt (t .lows) (t .highs) (key % 128)) (key % 128) (getD (t .releases) (key % 128) 0))
+        (start-at : start ≡ max ready (getD last (processorAt (t .plan) (key % 128)) 0)) where
+      starts-so : start ≡ startIs w (t .plan) (endIn words) (key % 128)
+      starts-so = start-at ∙ ap (λ (x : ℕ). max x (getD last (processorAt (t .plan) (key % 128)) 0)) ready-at ∙ start-is chosen
 
-      pub chosen-small : start + durationOf (t .durations) (choice - 1) ≤ 4000
+      pub chosen-small : start + durationOf (t .durations) (key % 128) ≤ 4000
       chosen-small = omega (arith, starts-so, start-small chosen, duration-small chosen)
 
-      pub chosen-reached : Reached w m t n (suc k) (withOf timed (choice - 1)) (set ends (choice - 1) (start + durationOf (t .durations) (choice - 1)))
-          (set last (processorAt (t .plan) (choice - 1)) (start + durationOf (t .durations) (choice - 1)))
-          (set (set words (2 * (choice - 1)) start) (2 * (choice - 1) + 1) (start + durationOf (t .durations) (choice - 1)))
+      pub chosen-reached : Reached w m t n (suc k) (set keys (key % 128) 4294967295) (set ends (key % 128) (start + durationOf (t .durations) (key % 128)))
+          (set last (processorAt (t .plan) (key % 128)) (start + durationOf (t .durations) (key % 128)))
+          (set (set words (2 * (key % 128)) start) (2 * (key % 128) + 1) (start + durationOf (t .durations) (key % 128)))
       chosen-reached = rw starts-so (next-reached chosen)
 
 -- ---- all steps
 
 -- no job is timed yet
-pub none-reached : {w : Work} {m : ℕ} {t : Lent} {n : ℕ} → Timable w m t n → Reached w m t n 0 noMarks (replicate 128 0) (replicate 4 0) (replicate 256 0)
-none-reached {w} {m} {t} {n} T = record {
+pub none-reached : {w : Work} {m : ℕ} {t : Lent} {n : ℕ} {keys : List ℕ} → Timable w m t n → KeysOf (t .plan) n keys → Reached w m t n 0 keys (replicate 128 0) (replicate 4 0) (replicate 256 0)
+none-reached {w} {m} {t} {n} {keys} T K = record {
   timable = T;
+  keys-size = K .size;
   ends-size = length-replicate {A = ℕ} 128 0;
   last-size = length-replicate {A = ℕ} 4 0;
   words-size = length-replicate {A = ℕ} 256 0;
-  number = count-none n (marked noMarks) (λ i h. marked-none i);
-  down = λ i j hi hj l e. clash e (marked-none j);
-  start = λ j h e. clash e (marked-none j);
-  end = λ j h e. clash e (marked-none j);
-  end-is = λ j h e. clash e (marked-none j);
-  by-plan = λ j h e. clash e (marked-none j);
+  number = count-none n (isTimed keys) none;
+  key-is = λ j h e. K .each j h;
+  no-key = K .none;
+  down = λ i j hi hj l e. clash e (none j hj);
+  start = λ j h e. clash e (none j h);
+  end = λ j h e. clash e (none j h);
+  end-is = λ j h e. clash e (none j h);
+  by-plan = λ j h e. clash e (none j h);
   last-is = λ j h e before.
-      let none : jobBefore w (t .plan) j ≡ 0 =
-      before-none w (t .plan) j (λ i hi. split (isEarlier (t .plan) j i) (λ f. clash (before i (omega (arith, T .count-is)) f) (marked-none i)) (λ f. f)) in
-      rw none (getD-replicated {A = ℕ} 4 (processorAt (t .plan) j) 0);
+      let first : jobBefore w (t .plan) j ≡ 0 =
+      before-none w (t .plan) j (λ i hi. split (isEarlier (t .plan) j i)
+      (λ f. let l : i < n = omega (arith, T .count-is) in clash (before i l f) (none i l)) (λ f. f)) in
+      rw first (getD-replicated {A = ℕ} 4 (processorAt (t .plan) j) 0);
 }
+  where
+    none : (j : ℕ) → j < n → isTimed keys j ≡ false
+    none j h = key-untimed keys j (omega (arith, K .each j h, small-starts T .small j h, T .few))
 
 -- all are timed
-pub all-timed : {w : Work} {m : ℕ} {t : Lent} {n : ℕ} {timed : Row} {ends last words : List ℕ}
-    → Reached w m t n n timed ends last words → Timed w (t .plan) (t .durations) (take (2 * n) words)
-all-timed {w} {m} {t} {n} {timed} {ends} {last} {words} R = record {
+pub all-timed : {w : Work} {m : ℕ} {t : Lent} {n : ℕ} {keys ends last words : List ℕ}
+    → Reached w m t n n keys ends last words → Timed w (t .plan) (t .durations) (take (2 * n) words)
+all-timed {w} {m} {t} {n} {keys} {ends} {last} {words} R = record {
   size = length-take-le (2 * n) words (omega (arith, R .words-size, T .few)) ∙ ap (λ (x : ℕ). 2 * x) (sym (T .count-is));
   start = λ j h.
       first (2 * j) (omega (arith, T .count-is))
@@ -313,8 +331,8 @@ all-timed {w} {m} {t} {n} {timed} {ends} {last} {words} R = record {
     low : {j : ℕ} → j < jobCountOf w → j < n
     low h = omega (arith, R .timable .count-is)
 
-    is-timed : {j : ℕ} → j < n → marked timed j ≡ true
-    is-timed {j} h = count-full n (marked timed) (R .number) j h
+    is-timed : {j : ℕ} → j < n → isTimed keys j ≡ true
+    is-timed {j} h = count-full n (isTimed keys) (R .number) j h
 
     first : (i : ℕ) → i < 2 * n → getD (take (2 * n) words) i 0 ≡ getD words i 0
     first i h = getD-take (2 * n) words i 0 h

@@ -40,11 +40,10 @@ fn time_jobs(framed: Framed, plan: &[u32], durations: &[u32]) -> [u32; 256]
     let n = framed.job_count as usize;
     let jobs = framed.jobs;
     let rows = framed.before;
-    let starts = timing::starts(plan, n);
     let releases = columns::releases(jobs);
     let lows = columns::low_words(rows);
     let highs = columns::high_words(rows);
-    timing::time_all(&starts, &releases, &lows, &highs, n, plan, durations)
+    timing::time_all(&releases, &lows, &highs, n, plan, durations)
 }
 
 // The timed run of an accepted frame: plan, durations and `out` have to be long enough, and plan and durations good.

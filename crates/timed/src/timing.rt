@@ -2,22 +2,45 @@
 use marks::Row;
 use plan::planning;
 ghost use mathlib.Core.Path.{_≡_};
-ghost use Prim.Native.Nat.{_+_, _*_, _≤_, _<_};
-ghost use lib.ListN.{length, set};
-ghost use Rattle.timed.specs.TimedTold.{StartsOf, lent, TimesNext, Stepped, TimesAll, AllTimed};
+ghost use Prim.Native.Nat.{_+_, _*_, _<_};
+ghost use lib.ListN.{replicate, set};
+ghost use Rattle.timed.specs.TimedTold.{StartsSmall, KeysOf, LeastOf, lent, TimesNext, Stepped, TimesAll, AllTimed};
 
-// The planned starts of the first n jobs.
-pub fn starts(plan: &[u32], n: usize) -> [u32; 128]
-    requires { ⌜ (n ≤ 128) × (2 * n ≤ length (now plan)) ⌝ }
-    ensures { λ r. ⌜ StartsOf (now (plan .entry)) n r ⌝ }
+// The key of a job that is timed, and of no job; it is above all others.
+const TIMED: u32 = 4294967295;
+
+fn no_keys() -> [u32; 128]
+    ensures { λ r. ⌜ r ≡ replicate 128 4294967295 ⌝ }
 {
-    let mut column = planning::no_ends();
+    [TIMED; 128]
+}
+
+// The keys of the first n jobs, none of which is timed: by planned start, and then by number.
+fn keys_of(plan: &[u32], n: usize) -> [u32; 128]
+    requires { ⌜ StartsSmall (now plan) n ⌝ }
+    ensures { λ r. ⌜ KeysOf (now (plan .entry)) n r ⌝ }
+{
+    let mut keys = no_keys();
     let mut j = 0usize;
     while j < n {
-        column[j] = plan[2 * j + 1];
+        keys[j] = 128 * plan[2 * j + 1] + (j as u32);
         j += 1;
     }
-    column
+    keys
+}
+
+fn least_of(keys: &[u32; 128]) -> u32
+    ensures { λ r. ⌜ LeastOf (now (keys .entry)) r ⌝ }
+{
+    let mut least = keys[0];
+    let mut j = 0usize;
+    while j < 128 {
+        if keys[j] < least {
+            least = keys[j];
+        }
+        j += 1;
+    }
+    least
 }
 
 // The job runs on its processor from `start` to `end`.
@@ -41,25 +64,23 @@ fn run_job(
     last[processor] = end;
 }
 
-// Of the jobs that are not timed yet and whose predecessors are, the one that is planned first gets its start and its end.
+// Of the jobs that are not timed yet, the one that is planned first gets its start and its end.
 fn time_next(
-    starts: &[u32; 128],
     releases: &[u32; 128],
     lows: &[u64; 128],
     highs: &[u64; 128],
-    n: usize,
     plan: &[u32],
     durations: &[u32],
-    timed: Row,
+    keys: &mut [u32; 128],
     ends: &mut [u32; 128],
     last: &mut [u32; 4],
     words: &mut [u32; 256],
-) -> Row
-    requires { ⌜ TimesNext (lent (now starts) (now releases) (now lows) (now highs) (now plan) (now durations)) n timed (now ends) (now last) (now words) ⌝ }
-    ensures { λ r. ⌜ Stepped (lent (now (starts .entry)) (now (releases .entry)) (now (lows .entry)) (now (highs .entry)) (now (plan .entry)) (now (durations .entry))) n timed (now (ends .entry)) (now (last .entry)) (now (words .entry)) r (now (ends .exit)) (now (last .exit)) (now (words .exit)) ⌝ }
+)
+    requires { ⌜ TimesNext (lent (now releases) (now lows) (now highs) (now plan) (now durations)) (now keys) (now ends) (now last) (now words) ⌝ }
+    ensures { λ _. ⌜ Stepped (lent (now (releases .entry)) (now (lows .entry)) (now (highs .entry)) (now (plan .entry)) (now (durations .entry))) (now (keys .entry)) (now (ends .entry)) (now (last .entry)) (now (words .entry)) (now (keys .exit)) (now (ends .exit)) (now (last .exit)) (now (words .exit)) ⌝ }
 {
-    let choice = planning::choose(starts, lows, highs, n, timed);
-    let job = choice - 1;
+    let key = least_of(keys);
+    let job = (key % 128) as usize;
     let row = Row {
         low: lows[job],
         high: highs[job],
@@ -71,12 +92,11 @@ fn time_next(
     let start = planning::later(ready, before);
     let end = start + durations[job];
     run_job(job, processor, start, end, ends, last, words);
-    timed.with(job)
+    keys[job] = TIMED;
 }
 
 // The starts and ends of the first n jobs, two words for each.
 pub fn time_all(
-    starts: &[u32; 128],
     releases: &[u32; 128],
     lows: &[u64; 128],
     highs: &[u64; 128],
@@ -84,24 +104,22 @@ pub fn time_all(
     plan: &[u32],
     durations: &[u32],
 ) -> [u32; 256]
-    requires { ⌜ TimesAll (lent (now starts) (now releases) (now lows) (now highs) (now plan) (now durations)) n ⌝ }
-    ensures { λ r. ⌜ AllTimed (lent (now (starts .entry)) (now (releases .entry)) (now (lows .entry)) (now (highs .entry)) (now (plan .entry)) (now (durations .entry))) n r ⌝ }
+    requires { ⌜ TimesAll (lent (now releases) (now lows) (now highs) (now plan) (now durations)) n ⌝ }
+    ensures { λ r. ⌜ AllTimed (lent (now (releases .entry)) (now (lows .entry)) (now (highs .entry)) (now (plan .entry)) (now (durations .entry))) n r ⌝ }
 {
+    let mut keys = keys_of(plan, n);
     let mut ends = planning::no_ends();
     let mut last = [0u32; 4];
     let mut words = planning::no_words();
-    let mut timed = Row::empty();
     let mut k = 0usize;
     while k < n {
-        timed = time_next(
-            starts,
+        time_next(
             releases,
             lows,
             highs,
-            n,
             plan,
             durations,
-            timed,
+            &mut keys,
             &mut ends,
             &mut last,
             &mut words,

@@ -18,7 +18,7 @@ ghost use Rattle.network.specs.Write.{given, toldOf, filledBy, wrote, wroteTo};
 fn judge(file: &[u8]) -> Answer
     ensures { λ r. ⌜ r ≡ answerOf (load (now (file .entry))) ⌝ }
 {
-    let loaded = network::read(file);
+    let loaded = reader::read(file);
     loaded.answer
 }
 
@@ -41,7 +41,7 @@ fn copy(bytes: &[u8], out: &mut [u8])
 }
 
 // Gives the bytes of a file, if there is room.
-fn give(file: &[u8], out: &mut [u8]) -> Written
+pub fn give(file: &[u8], out: &mut [u8]) -> Written
     ensures { λ r. ⌜ r ≡ toldOf (given (now (file .entry)) (length (now (out .entry)))) ⌝ }
     ensures { λ _. ⌜ now (out .exit) ≡ filledBy (now (out .entry)) (given (now (file .entry)) (length (now (out .entry)))) ⌝ }
 {

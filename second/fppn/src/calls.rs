@@ -1,6 +1,6 @@
 //! The library's calls, each made safe: a slice is lent as its address and its length.
 
-use crate::layout::{Answer, GraphResult, Loaded, Network, Ran, Turned, Written};
+use crate::layout::{Answer, GraphResult, Listed, Loaded, Network, Ran, Turned, Written};
 
 extern "C" {
     fn fppn_read(file: *const u8, file_length: usize) -> Loaded;
@@ -54,6 +54,7 @@ extern "C" {
         out: *mut u32,
         out_length: usize,
     ) -> Answer;
+    fn fppn_list(file: *const u8, file_length: usize, out: *mut u8, out_length: usize) -> Listed;
 }
 
 /// Reads a network file.
@@ -176,4 +177,11 @@ pub fn timed(
             out.len(),
         )
     }
+}
+
+/// Lists a network file with its plan for two processors, as text into `out`.
+pub fn list(file: &[u8], out: &mut [u8]) -> Listed {
+    // SAFETY: addresses and lengths are those of live slices; `out` is lent to this call alone,
+    // and the file is only read.
+    unsafe { fppn_list(file.as_ptr(), file.len(), out.as_mut_ptr(), out.len()) }
 }

@@ -127,3 +127,12 @@ pub struct Turned {
     pub variables: [u32; VARIABLE_WORDS],
     pub channels: [Held; CHANNELS],
 }
+
+/// What the lister returns: the length of the text.
+#[repr(C)]
+#[derive(Clone, Copy, Debug, PartialEq, Eq)]
+pub struct Listed {
+    pub reply: u32,
+    pub place: usize,
+    pub length: usize,
+}

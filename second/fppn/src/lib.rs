@@ -4,8 +4,8 @@
 mod calls;
 mod layout;
 
-pub use calls::{check, graph, plan, read, timed, turns, write, zero_delay, Turns};
+pub use calls::{check, graph, list, plan, read, timed, turns, write, zero_delay, Turns};
 pub use layout::{
-    Answer, Channel, GraphResult, Held, Loaded, Network, Pair, Process, Ran, Turned, Written,
-    ACTION_WORDS, CHANNELS, JOBS, PAIRS, PROCESSES, VARIABLE_WORDS,
+    Answer, Channel, GraphResult, Held, Listed, Loaded, Network, Pair, Process, Ran, Turned,
+    Written, ACTION_WORDS, CHANNELS, JOBS, PAIRS, PROCESSES, VARIABLE_WORDS,
 };

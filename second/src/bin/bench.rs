@@ -13,13 +13,15 @@ use second::network::Network;
 use second::plan::Task;
 use second::timed::run_timed;
 use second::turns::run_turns;
-use second::{as_library, frame, graph, plan, read, write, zero_delay};
+use second::{as_library, frame, graph, listing, plan, read, write, zero_delay};
 
 const ROUNDS: usize = 25;
 /// How long one timing lasts, about.
 const ROUND: Duration = Duration::from_millis(8);
 const FRAMES: u32 = 100;
 const PROCESSORS: u32 = 4;
+/// The number of processors that the lister plans for.
+const LISTED: u32 = 2;
 
 fn main() {
     println!(
@@ -40,8 +42,9 @@ fn main() {
         let input = runs::samples(&mut random, 2 * frame::JOBS * FRAMES as usize);
         bench_run(name, &network, &input);
     }
-    let related = plannable(&mut random, |random| networks::full(random, Style::Mixed));
-    let few = plannable(&mut random, few_pairs);
+    let full = |random: &mut Random| networks::full(random, Style::Mixed);
+    let related = plannable(&mut random, PROCESSORS, full);
+    let few = plannable(&mut random, PROCESSORS, few_pairs);
     bench_planner("plan, 128 jobs, all related", &related);
     bench_planner("plan, 128 jobs, few pairs", &few);
     bench_checker("check, 128 jobs, all related", &related);
@@ -60,20 +63,27 @@ fn main() {
     for (planned, pairs) in [(&related, "all related"), (&few, "few pairs")] {
         bench_timed(&format!("timed, 128 jobs, {pairs}"), planned, &mut random);
     }
+    let few = plannable(&mut random, LISTED, few_pairs);
+    bench_lister("list, 128 jobs, all related", &related);
+    bench_lister("list, 128 jobs, few pairs", &few);
 }
 
-/// A file with a plan for four processors.
+/// A file with a plan.
 struct Planned {
     file: Vec<u8>,
     plan: Vec<u32>,
 }
 
-/// The first of such networks that the planner plans.
-fn plannable(random: &mut Random, mut network: impl FnMut(&mut Random) -> Network) -> Planned {
+/// The first of such networks that the planner plans for so many processors.
+fn plannable(
+    random: &mut Random,
+    processors: u32,
+    network: impl Fn(&mut Random) -> Network,
+) -> Planned {
     loop {
         let file = file::of(&network(random));
-        let task = Task::of(&file, PROCESSORS).expect("the network is sound");
-        if let Some(plan) = feasible::planned(&file, &task, PROCESSORS) {
+        let task = Task::of(&file, processors).expect("the network is sound");
+        if let Some(plan) = feasible::planned(&file, &task, processors) {
             return Planned { file, plan };
         }
     }
@@ -211,6 +221,17 @@ fn bench_timed(name: &str, planned: &Planned, random: &mut Random) {
                 out,
             ))
         },
+    );
+}
+
+fn bench_lister(name: &str, planned: &Planned) {
+    let file = &planned.file;
+    let text = listing::listing(file).expect("the network is planned");
+    bench(
+        name,
+        &mut vec![0u8; text.len()],
+        |out| _ = black_box(fppn::list(black_box(file), out)),
+        |out| _ = black_box(listing::list(black_box(file), out)),
     );
 }
 

@@ -1,0 +1,11 @@
+mod Ranges
+mod InTurn
+mod Loop
+mod Records
+mod PairRows
+mod Tails
+mod Actions
+mod ActionLoop
+mod ProgramLoop
+mod WholeFile
+mod EntryPoints
