@@ -1,7 +1,7 @@
 // Runs of network K, four jobs a frame, that are refused, and runs with more lent than they need.
 // Where nothing is filled, the output words stay 9.
-use crate::files;
-use crate::ran;
+use shown::K;
+use shown::ran;
 
 pub fn run() {
     samples();
@@ -13,7 +13,7 @@ pub fn run() {
 }
 
 fn samples() {
-    let k = files::K;
+    let k = K;
     let mut out = [9u32; 16];
     let present = [0u32, 0, 0, 0, 0, 0, 0, 0, 0, 0, 0, 0, 0, 0, 2, 0];
     ran::show(b"present 2 in the last sample", &k, 2, &present, &mut out);
@@ -31,7 +31,7 @@ fn samples() {
 
 // Words that the run does not look at, and words that it does not fill.
 fn beyond() {
-    let k = files::K;
+    let k = K;
     let sample = [1u32, 42, 0, 0, 0, 0, 0, 0, 2, 5];
     let mut out = [9u32; 8];
     ran::show(b"a bad sample beyond the frames", &k, 1, &sample, &mut out);
@@ -44,7 +44,7 @@ fn beyond() {
 }
 
 fn short_input() {
-    let k = files::K;
+    let k = K;
     let one = [1u32, 42, 0, 0, 0, 0, 0];
     let mut one_out = [9u32; 8];
     ran::show(b"input one word short", &k, 1, &one, &mut one_out);
@@ -60,7 +60,7 @@ fn short_input() {
 }
 
 fn short_output() {
-    let k = files::K;
+    let k = K;
     let one = [1u32, 42, 0, 0, 0, 0, 0, 0];
     let mut one_out = [9u32; 7];
     ran::show(b"output one word short", &k, 1, &one, &mut one_out);
@@ -89,7 +89,7 @@ fn frames() {
     let mut word = [9u32];
     ran::show(b"0 frames of an empty file", b"", 0, &none, &mut word);
     ran::show(b"101 frames of an empty file", b"", 101, &none, &mut word);
-    let k = files::K;
+    let k = K;
     let input = [1u32, 42, 0, 0, 0, 0, 0, 0];
     let mut out = [9u32; 8];
     ran::show(b"0 frames of K", &k, 0, &input, &mut out);
@@ -101,7 +101,7 @@ fn broken() {
     let none = [0u32];
     let mut word = [9u32];
     ran::show(b"1 frame of an empty file", b"", 1, &none, &mut word);
-    let mut past = files::K;
+    let mut past = K;
     past[35] = 2;
     ran::show(
         b"100 frames of K with a skip past the end",

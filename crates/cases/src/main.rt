@@ -7,12 +7,9 @@ mod listings;
 mod longest;
 mod numbers;
 mod plans;
-mod print;
-mod ran;
 mod runs;
 mod times;
 mod turn_runs;
-mod vectors;
 
 fn main() {
     numbers::run();
@@ -24,5 +21,4 @@ fn main() {
     turn_runs::run();
     times::run();
     listings::run();
-    vectors::run();
 }

@@ -1,7 +1,7 @@
 // Numbers of a file, read and written.
-use crate::print;
 use number::Number;
 use number::Written;
+use shown::print;
 
 pub fn run() {
     read_at_start();
@@ -53,14 +53,11 @@ fn write_all() {
 fn read(file: &[u8], at: usize) {
     print::text(b"read");
     print::bytes(file);
-    print::text(b" from ");
-    print::number(at as u64);
+    print::counted(b" from ", at as u64);
     match number::read_number(file, at) {
         Number::Value { value, next } => {
-            print::text(b": ");
-            print::number(value as u64);
-            print::text(b", next ");
-            print::number(next as u64);
+            print::counted(b": ", value as u64);
+            print::counted(b", next ", next as u64);
         }
         Number::Refused { reply, place } => {
             print::text(b": ");
@@ -71,14 +68,11 @@ fn read(file: &[u8], at: usize) {
 }
 
 fn write(out: &mut [u8], at: usize, n: u32) {
-    print::text(b"write ");
-    print::number(n as u64);
-    print::text(b" from ");
-    print::number(at as u64);
+    print::counted(b"write ", n as u64);
+    print::counted(b" from ", at as u64);
     match number::write_number(out, at, n) {
         Written::Next { next } => {
-            print::text(b": next ");
-            print::number(next as u64);
+            print::counted(b": next ", next as u64);
         }
         Written::Refused { reply, place } => {
             print::text(b": ");

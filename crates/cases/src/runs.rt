@@ -1,7 +1,7 @@
 // Zero-delay runs: what each action does, what channels hold, and what stays from frame to frame.
 // Beside each file what its programs do: v0 to v7 are a process's variables.
-use crate::files;
-use crate::ran;
+use shown::K;
+use shown::ran;
 
 pub fn run() {
     sums();
@@ -160,7 +160,7 @@ fn frames() {
     let blank = [0u32; 12];
     let mut out = [9u32; 12];
     ran::show(b"kept from frame to frame", &kept, 3, &blank, &mut out);
-    let k = files::K;
+    let k = K;
     let one = [1u32, 42, 0, 0, 0, 0, 0, 0];
     let mut one_out = [9u32; 8];
     ran::show(b"K for 1 frame", &k, 1, &one, &mut one_out);
@@ -170,7 +170,7 @@ fn frames() {
 }
 
 fn long_runs() {
-    let k = files::K;
+    let k = K;
     let mut input = [0u32; 800];
     input[0] = 1;
     input[1] = 42;

@@ -1,4 +1,4 @@
-//! The lines of the calls, as `cases` prints them.
+//! The lines of the calls, as the program `vectors` of crates/ prints them.
 
 use crate::graph::{marked, Graph};
 use crate::machine::Final;

@@ -1,4 +1,4 @@
-//! The source of the calls, in the layout of the other sources of `cases`.
+//! The source of the program `vectors`, in the layout of the other crates.
 
 use super::Vector;
 use crate::network::Network;
@@ -8,28 +8,28 @@ const WIDTH: usize = 60;
 
 const HEAD: &str = "\
 // A fixed sample of the second program's generated cases, made by it (second/vectors). What each prints is what it says itself.
-use crate::files;
-use crate::graphs;
-use crate::listings;
-use crate::plans;
-use crate::ran;
-use crate::times;
-use crate::turn_runs;
+use shown::files;
+use shown::graphs;
+use shown::listings;
+use shown::plans;
+use shown::ran;
+use shown::times;
+use shown::turn_runs;
 ";
 
-/// A function for each call, and one that makes them all.
+/// A function for each call, and `main`, which makes them all.
 pub fn module(sample: &[Vector]) -> String {
     let name = |vector: &Vector| {
         let (label, _) = vector.line.split_once(':').expect("a line has a label");
         label.replace(' ', "_")
     };
     let all = sample.iter().map(|vector| format!("{}();", name(vector)));
-    let run = function("run", all);
+    let main = function("main", all);
     let each = sample.iter().map(|vector| {
         let made = function(&name(vector), vector.statements.iter().cloned());
         format!("\n{made}")
     });
-    format!("{HEAD}\npub {run}{}", each.collect::<String>())
+    format!("{HEAD}\n{main}{}", each.collect::<String>())
 }
 
 fn function(name: &str, statements: impl Iterator<Item = String>) -> String {
