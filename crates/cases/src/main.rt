@@ -1,5 +1,7 @@
 // Runs the cases that the rules give and that are not proved as starred ones, and others at the edges of the rules.
 // Each prints a line; the whole is held to the crate's file `stdout`.
+#![tactic(auto)]
+
 mod files;
 mod graphs;
 mod lent;

@@ -1,4 +1,6 @@
 // The face to C and Rust: each entry point under a plain name. Every answer begins with the number of the reply, and its place.
+#![tactic(auto)]
+
 ghost use Rattle.std.specs.Prelude.{◌≡◌};
 ghost use Rattle.network.specs.Read.{read_file};
 ghost use Rattle.network.specs.Write.{wrote, wrote_to};
@@ -19,7 +21,7 @@ use network::Network;
 
 // The network of a file, all zero when it is refused.
 #[repr(C)]
-#[derive(Drop)]
+#[derive(Clone, Copy)]
 pub struct FppnLoaded {
     pub reply: u32,
     pub place: usize,
@@ -28,7 +30,7 @@ pub struct FppnLoaded {
 
 // How many bytes were written.
 #[repr(C)]
-#[derive(Drop)]
+#[derive(Clone, Copy)]
 pub struct FppnWritten {
     pub reply: u32,
     pub place: usize,
@@ -38,7 +40,7 @@ pub struct FppnWritten {
 // The precedence graph: how many jobs there are, the frame's length, how many edges stay; of each job its process, release, deadline and budget;
 // and row i of `rows` marks each job that an edge leads to from job i.
 #[repr(C)]
-#[derive(Drop)]
+#[derive(Clone, Copy)]
 pub struct FppnGraphResult {
     pub reply: u32,
     pub place: usize,
@@ -54,7 +56,7 @@ pub struct FppnGraphResult {
 
 // The variables after a run, and what the channels hold.
 #[repr(C)]
-#[derive(Drop)]
+#[derive(Clone, Copy)]
 pub struct FppnRan {
     pub reply: u32,
     pub place: usize,
@@ -64,7 +66,7 @@ pub struct FppnRan {
 
 // A turn run: the frames finished, the jobs finished in the present frame, the turns that worked and that waited; the variables, and what the channels hold.
 #[repr(C)]
-#[derive(Drop)]
+#[derive(Clone, Copy)]
 pub struct FppnTurned {
     pub reply: u32,
     pub place: usize,
@@ -78,7 +80,7 @@ pub struct FppnTurned {
 
 // How many bytes of text were filled.
 #[repr(C)]
-#[derive(Drop)]
+#[derive(Clone, Copy)]
 pub struct FppnListed {
     pub reply: u32,
     pub place: usize,
@@ -87,7 +89,7 @@ pub struct FppnListed {
 
 // An answer that has no more to tell.
 #[repr(C)]
-#[derive(Drop)]
+#[derive(Clone, Copy)]
 pub struct FppnAnswer {
     pub reply: u32,
     pub place: usize,

@@ -1,4 +1,6 @@
 // The frame of a network: its jobs in sequence, which job precedes which, and the precedence graph.
+#![tactic(auto)]
+
 pub mod columns;
 mod precedence;
 mod reduction;
@@ -16,7 +18,7 @@ use network::Network;
 use reply::{Answer, Reply};
 
 // One job: its process, release, absolute deadline and budget, in ticks from the frame's start.
-#[derive(Drop)]
+#[derive(Clone, Copy)]
 pub struct Job {
     pub process: u32,
     pub release: u32,
@@ -25,7 +27,7 @@ pub struct Job {
 }
 
 // What planner, checker and runs use. Row j of `before` marks every job that precedes job j. All zero when the file is refused.
-#[derive(Drop)]
+#[derive(Clone, Copy)]
 pub struct Framed {
     pub answer: Answer,
     pub network: Network,
@@ -36,7 +38,7 @@ pub struct Framed {
 }
 
 // The published graph. Row i of `rows` marks each job that an edge leads to from job i. All zero when the file is refused.
-#[derive(Drop)]
+#[derive(Clone, Copy)]
 pub struct PrecedenceGraph {
     pub answer: Answer,
     pub job_count: u32,

@@ -9,7 +9,7 @@ ghost use Rattle.graph.specs.ReductionTold.{Later, ReducedFrom, FindsMark, excep
 use marks::Row;
 
 // Row i marks each job that an edge leads to from job i.
-#[derive(Drop)]
+#[derive(Clone, Copy)]
 pub struct Reduced {
     pub rows: [Row; 128],
     pub edges: u32,

@@ -12,14 +12,14 @@ use marks::Row;
 use network::Process;
 
 // The first `count` jobs are those of the sequence so far; the rest are zero.
-#[derive(Drop)]
+#[derive(Clone, Copy)]
 pub struct Jobs {
     pub count: usize,
     pub jobs: [Job; 128],
 }
 
 // The processes that release at a time; and the time of the next release, or the frame's end.
-#[derive(Drop)]
+#[derive(Clone, Copy)]
 pub struct Released {
     pub pending: u64,
     pub next: u32,

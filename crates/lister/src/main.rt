@@ -1,4 +1,6 @@
 // The lister: reads a network file on standard input, up to 4,096 bytes of it, and prints its listing for two processors, or why it is refused.
+#![tactic(auto)]
+
 use libc::{STDIN_FILENO, STDOUT_FILENO};
 
 fn main() {

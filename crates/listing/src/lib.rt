@@ -1,4 +1,6 @@
 // The lister's text: the jobs of a file's network and their plan for two processors.
+#![tactic(auto)]
+
 mod lines;
 mod text;
 
@@ -10,7 +12,7 @@ use graph::PrecedenceGraph;
 use reply::Answer;
 
 // What a call answers, and how many bytes of text it filled.
-#[derive(Drop)]
+#[derive(Clone, Copy)]
 pub struct Listed {
     pub answer: Answer,
     pub length: usize,

@@ -5,7 +5,7 @@ ghost use Rattle.machine.specs.ChannelTold.{Sound, TakenFrom, PutInto, placed};
 use crate::Channel;
 
 // What a read gives, and the channel after it.
-#[derive(Drop)]
+#[derive(Clone, Copy)]
 pub struct Taken {
     pub channel: Channel,
     pub value: u32,

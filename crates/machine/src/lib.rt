@@ -1,4 +1,6 @@
 // What both runs are built from: the actions of a process, and what they do to its variables and its channels.
+#![tactic(auto)]
+
 pub mod actions;
 mod channels;
 pub mod report;
@@ -12,7 +14,7 @@ ghost use Rattle.machine.specs.Acting.{Able, Acted};
 ghost use Rattle.machine.specs.Jobs.{Runs, JobDone, Goes, Went};
 
 // One action. Operands name variables 0 to 7 of the process, a channel, a number, or how many actions to skip.
-#[derive(Drop)]
+#[derive(Clone, Copy)]
 pub enum Action {
     Set { a: u32, number: u32 },
     Add { a: u32, b: u32, c: u32 },
@@ -26,14 +28,14 @@ pub enum Action {
 }
 
 // A job's input or output: `present` is 0 or 1, and `value` is 0 where it is not present.
-#[derive(Drop)]
+#[derive(Clone, Copy)]
 pub struct Sample {
     pub present: u32,
     pub value: u32,
 }
 
 // A queue or a board: `length` values from place `head` on, round the eight places, oldest first; and how many writes met it full.
-#[derive(Drop)]
+#[derive(Clone, Copy)]
 pub struct Channel {
     pub values: [u32; 8],
     pub head: u32,
@@ -42,7 +44,7 @@ pub struct Channel {
 }
 
 // What a job under way keeps for itself: the number of its next action, and what it has output so far.
-#[derive(Drop)]
+#[derive(Clone, Copy)]
 pub struct Under {
     pub at: usize,
     pub output: Sample,
@@ -50,7 +52,7 @@ pub struct Under {
 
 // What a run returns of a channel: how many values it holds, the values, oldest first and zeros after them, and the loss count.
 #[repr(C)]
-#[derive(Drop)]
+#[derive(Clone, Copy)]
 pub struct Held {
     pub number: u32,
     pub values: [u32; 8],

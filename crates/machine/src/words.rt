@@ -9,7 +9,7 @@ ghost use Rattle.machine.specs.Words.{channel_at, stored, contents_in, SoundWord
 use crate::{Channel, channels};
 
 // What a read gives: with nothing there both are 0.
-#[derive(Drop)]
+#[derive(Clone, Copy)]
 pub struct Value {
     pub value: u32,
     pub flag: u32,

@@ -1,10 +1,12 @@
 // Rows of 128 marks: which of 128 jobs precede a job, have finished, or are joined to it by an edge.
+#![tactic(auto)]
+
 ghost use Rattle.std.specs.Prelude.{◌≡◌};
 ghost use Rattle.marks.specs.Row.{no_marks, marked, with_of, or_of, without_of, inside_of, count_of};
 
 // Mark k is bit k of the low word; from 64 on, bit k - 64 of the high word.
 #[repr(C)]
-#[derive(Drop)]
+#[derive(Clone, Copy)]
 pub struct Row {
     pub low: u64,
     pub high: u64,

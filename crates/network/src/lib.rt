@@ -1,4 +1,6 @@
 // The network of a file, and the rules that its reader and its writer share. And of a network its frame's length, and which process comes before which.
+#![tactic(auto)]
+
 mod ahead;
 pub mod channels;
 pub mod cycles;
@@ -17,7 +19,7 @@ use reply::Answer;
 
 // One process: its period, the jobs it releases each time, and each job's relative deadline and budget, in ticks.
 #[repr(C)]
-#[derive(Drop)]
+#[derive(Clone, Copy)]
 pub struct Process {
     pub period: u32,
     pub burst: u32,
@@ -26,7 +28,7 @@ pub struct Process {
 }
 
 #[repr(C)]
-#[derive(Drop)]
+#[derive(Clone, Copy)]
 pub struct Pair {
     pub higher: u32,
     pub lower: u32,
@@ -34,7 +36,7 @@ pub struct Pair {
 
 // Kind 0 is a queue, 1 a board.
 #[repr(C)]
-#[derive(Drop)]
+#[derive(Clone, Copy)]
 pub struct Channel {
     pub kind: u32,
     pub writer: u32,
@@ -43,7 +45,7 @@ pub struct Channel {
 }
 
 // The four numbers of an action.
-#[derive(Drop)]
+#[derive(Clone, Copy)]
 pub struct Four {
     pub head: u32,
     pub a: u32,
@@ -53,7 +55,7 @@ pub struct Four {
 
 // Zero past the counts. Action k of process p stands at 96 * p + 4 * k of `actions`.
 #[repr(C)]
-#[derive(Drop)]
+#[derive(Clone, Copy)]
 pub struct Network {
     pub process_count: u32,
     pub processes: [Process; 12],
@@ -66,14 +68,14 @@ pub struct Network {
 }
 
 // What the reader returns; the network is all zero when the file is refused.
-#[derive(Drop)]
+#[derive(Clone, Copy)]
 pub struct Loaded {
     pub answer: Answer,
     pub network: Network,
 }
 
 // What the writer returns: how many bytes it wrote.
-#[derive(Drop)]
+#[derive(Clone, Copy)]
 pub struct Written {
     pub answer: Answer,
     pub length: usize,

@@ -1,5 +1,7 @@
 // Numbers of a network file: 0 to 4,294,967,295 in groups of seven bits, low group first, one group to a byte.
 // The high bit is set on every group but the last, and there are at most five groups.
+#![tactic(auto)]
+
 ghost use Rattle.std.specs.Prelude.{◌≡◌, ◌+◌, ◌<◌, ◌≤◌, ◌^◌, length, drop};
 ghost use Rattle.std.proofs.lemmas.List.Edits.{sets};
 ghost use Rattle.number.specs.Number.{number_at, rest_from, plus};
@@ -10,7 +12,7 @@ ghost use Rattle.number.specs.Told.{number_of, written_of};
 use reply::Reply;
 
 // What stands at a position of a file where a number is expected.
-#[derive(Drop)]
+#[derive(Clone, Copy)]
 pub enum Number {
     // A number, and the position after its last group.
     Value { value: u32, next: usize },
@@ -19,7 +21,7 @@ pub enum Number {
 }
 
 // What a write did.
-#[derive(Drop)]
+#[derive(Clone, Copy)]
 pub enum Written {
     // All groups are written, up to this position.
     Next { next: usize },

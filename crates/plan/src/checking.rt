@@ -7,7 +7,7 @@ use marks::Row;
 use reply::{Answer, Reply};
 
 // What the checker finds: no fault, or the least faulty job and its first fault.
-#[derive(Drop)]
+#[derive(Clone, Copy)]
 enum Verdict {
     Good,
     Faulty(usize, Reply),

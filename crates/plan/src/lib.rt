@@ -1,4 +1,6 @@
 // Plans: the planner, and the checker of any plan, whoever made it.
+#![tactic(auto)]
+
 pub mod calls;
 pub mod checking;
 pub mod planning;

@@ -8,14 +8,14 @@ use marks::Row;
 use reply::{Answer, Reply};
 
 // What becomes of a job that is chosen: it is placed, and these are the jobs placed now; or it misses its deadline.
-#[derive(Drop)]
+#[derive(Clone, Copy)]
 enum Step {
     Placed(Row),
     Misses(usize),
 }
 
 // A job that is chosen, its processor, and its start there.
-#[derive(Drop)]
+#[derive(Clone, Copy)]
 struct Next {
     job: usize,
     processor: usize,
@@ -23,7 +23,7 @@ struct Next {
 }
 
 // The plan's words for all jobs, where the answer is "done".
-#[derive(Drop)]
+#[derive(Clone, Copy)]
 pub struct Planned {
     pub answer: Answer,
     pub words: [u32; 256],

@@ -13,13 +13,13 @@ use network::{Channel, channels};
 use number::Number;
 use reply::{Answer, Reply};
 
-#[derive(Drop)]
+#[derive(Clone, Copy)]
 pub enum ChannelRead {
     Got { channel: Channel, next: usize },
     Refused { reply: Reply, place: usize },
 }
 
-#[derive(Drop)]
+#[derive(Clone, Copy)]
 pub struct ChannelsRead {
     pub ok: bool,
     pub answer: Answer,

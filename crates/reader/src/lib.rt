@@ -1,4 +1,6 @@
 // The reader of network files.
+#![tactic(auto)]
+
 mod channels;
 mod numbers;
 mod pairs;

@@ -12,13 +12,13 @@ use network::{Pair, pairs};
 use number::Number;
 use reply::{Answer, Reply};
 
-#[derive(Drop)]
+#[derive(Clone, Copy)]
 pub enum PairRead {
     Got { pair: Pair, next: usize },
     Refused { reply: Reply, place: usize },
 }
 
-#[derive(Drop)]
+#[derive(Clone, Copy)]
 pub struct PairsRead {
     pub ok: bool,
     pub answer: Answer,

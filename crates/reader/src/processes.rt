@@ -11,13 +11,13 @@ use network::Process;
 use number::Number;
 use reply::{Answer, Reply};
 
-#[derive(Drop)]
+#[derive(Clone, Copy)]
 pub enum ProcessRead {
     Got { process: Process, next: usize },
     Refused { reply: Reply, place: usize },
 }
 
-#[derive(Drop)]
+#[derive(Clone, Copy)]
 pub struct ProcessesRead {
     pub ok: bool,
     pub answer: Answer,

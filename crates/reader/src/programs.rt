@@ -11,14 +11,14 @@ use network::{Channel, Four, programs};
 use number::Number;
 use reply::Reply;
 
-#[derive(Drop)]
+#[derive(Clone, Copy)]
 pub enum FourRead {
     Got { four: Four, next: usize },
     Refused { reply: Reply, place: usize },
 }
 
 // What reading into lent memory answers: where to go on, or the refusal.
-#[derive(Drop)]
+#[derive(Clone, Copy)]
 pub enum ProgramsRead {
     Next { next: usize },
     Refused { reply: Reply, place: usize },

@@ -1,9 +1,11 @@
 // The numbered replies that every call gives, each by a name of its own, and the answer that carries one.
+#![tactic(auto)]
+
 ghost use Rattle.std.specs.Prelude.{◌≡◌};
 ghost use Rattle.reply.specs.Reply.{reply_number};
 
 // In the order of their numbers, 0 to 19. A further reply is one more case here, in `number` and in `reply_number`.
-#[derive(Drop)]
+#[derive(Clone, Copy)]
 pub enum Reply {
     Done,
     // The file.
@@ -33,7 +35,7 @@ pub enum Reply {
 }
 
 // What a call answers: its reply, and the place that the reply speaks of (0 when it is done).
-#[derive(Drop)]
+#[derive(Clone, Copy)]
 pub struct Answer {
     pub reply: Reply,
     pub place: usize,

@@ -1,4 +1,6 @@
 // What the programs `cases` and `vectors` print: a line for each call of an entry point, with all that it answers.
+#![tactic(auto)]
+
 pub mod files;
 pub mod graphs;
 pub mod listings;

@@ -1,4 +1,6 @@
 // The timed run: the starts and ends of a frame's jobs on a plan, with a duration up to the budget for each job.
+#![tactic(auto)]
+
 mod durations;
 mod timing;
 

@@ -5,7 +5,7 @@ use crate::turning;
 use marks::Row;
 
 // After the turns of a frame: how many turns have passed in all, how many of the frame's worked, and whether the frame has ended; if not, how many of its jobs have finished.
-#[derive(Drop)]
+#[derive(Clone, Copy)]
 pub struct FrameTurned {
     pub passed: usize,
     pub working: usize,
@@ -14,7 +14,7 @@ pub struct FrameTurned {
 }
 
 // After all turns: frames finished, jobs finished in the present frame, and the turns that worked.
-#[derive(Drop)]
+#[derive(Clone, Copy)]
 pub struct Turnings {
     pub frames: usize,
     pub jobs: usize,

@@ -1,4 +1,6 @@
 // The turn run: each turn names a processor, which starts its next job in planned order, does one action of its job, or waits.
+#![tactic(auto)]
+
 mod blank;
 mod frames;
 mod judging;
@@ -22,7 +24,7 @@ use zero_delay::empty;
 
 // What the run returns, all zero when it is refused: the frames finished, the jobs finished in the present frame, the working and the waiting turns,
 // the variables, eight for each process, and what the channels hold.
-#[derive(Drop)]
+#[derive(Clone, Copy)]
 pub struct TurnRan {
     pub answer: Answer,
     pub frames: usize,

@@ -7,7 +7,7 @@ use machine::{Sample, Under, samples};
 use marks::Row;
 
 // A processor in a frame: one more than its next job in planned order, or 0 when none is left; whether that job is under way, and what it keeps.
-#[derive(Drop)]
+#[derive(Clone, Copy)]
 pub struct Processor {
     pub next: usize,
     pub busy: bool,
@@ -15,7 +15,7 @@ pub struct Processor {
 }
 
 // What a turn leaves: the processor, the jobs that have finished, 1 if it worked, and whether it finished the frame's last job.
-#[derive(Drop)]
+#[derive(Clone, Copy)]
 pub struct Turned {
     pub processor: Processor,
     pub finished: Row,

@@ -1,4 +1,6 @@
 // A fixed sample of the second program's generated cases, made by it (second/vectors). What each prints is what it says itself.
+#![tactic(auto)]
+
 use shown::{files, graphs, listings, plans, ran, times, turn_runs};
 
 fn main() {

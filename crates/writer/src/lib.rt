@@ -1,4 +1,6 @@
 // The writer of network files: the bytes of a network, if the reader would accept them and there is room for them.
+#![tactic(auto)]
+
 mod programs;
 mod records;
 mod writing;

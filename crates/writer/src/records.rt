@@ -11,7 +11,7 @@ use marks::Row;
 use network::{Channel, Pair, Process, channels, cycles, frame, pairs};
 
 // The position after the pairs, and their rows of marks: row a marks b where a-b is a pair.
-#[derive(Drop)]
+#[derive(Clone, Copy)]
 pub struct PairsPut {
     pub next: usize,
     pub rows: [Row; 12],

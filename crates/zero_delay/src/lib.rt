@@ -1,4 +1,6 @@
 // The zero_delay_state run: the jobs of a network one after another in sequence, frame after frame.
+#![tactic(auto)]
+
 pub mod empty;
 mod frames;
 
@@ -14,7 +16,7 @@ use machine::{Held, report, samples, tables};
 use reply::{Answer, Reply};
 
 // What the run returns, all zero when it is refused: the variables, eight for each process, and what the channels hold.
-#[derive(Drop)]
+#[derive(Clone, Copy)]
 pub struct Ran {
     pub answer: Answer,
     pub variables: [u32; 96],
