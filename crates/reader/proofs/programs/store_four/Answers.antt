@@ -1,0 +1,7 @@
+-- `programs::store_four` meets its contract.
+use Rattle.reader.proofs.Actions.{four_stores}
+use Rattle.reader.proofs.programs.store_four.Goals as goal
+
+pub returns : goal.returns
+returns c = let four = c.args.four in
+    four_stores c.args.actions.now c.args.at four.head four.a four.b four.c
