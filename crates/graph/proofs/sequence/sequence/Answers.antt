@@ -4,16 +4,6 @@ use Rattle.graph.proofs.ReleasedLoop.{due_begins}
 use Rattle.graph.proofs.SequenceLoops.{taking_begins, taking_less, taking_ends, burst_begins, burst_room, burst_goes_on, burst_ends, times_begin, times_go_on, times_end, good_of, room_of}
 use Rattle.graph.proofs.sequence.sequence.Goals as goal
 
-wide : (c : tie.Start invariant-loop3 decreases-loop3 invariant-loop2 decreases-loop2 invariant-loop decreases-loop) → c.args.n ≤ length c.args.t1
-wide c = let few = c.requires.few in search rules
-
-fits : (c : tie.In-loop3 invariant-loop3 decreases-loop3 invariant-loop2 decreases-loop2 invariant-loop decreases-loop) → c.before.loop3.count < 128
-fits c = let turn = c.before.before.before.before in
-    let in-loop = turn.before.before.before.before.before.before in
-    let words = in-loop.before.before.before.before in
-    burst_room c.before.loop3.invariant turn.loop2-test.true c.loop3-test.true
-    (room_of _ _ _ _ words.before.requires _ words.first-words.ensures _ in-loop.loop-test.true)
-
 pub first_words-first-requires : goal.first_words-first-requires
 first_words-first-requires c = c.requires.few
 
@@ -32,7 +22,9 @@ pub next_free-p-requires : goal.next_free-p-requires
 next_free-p-requires c = c.requires.few
 
 pub loop-p-init : goal.loop-p-init
-loop-p-init c = taking_begins (good_of _ _ _ _ c.requires) _ _ _ _ _ (wide start{-BAD Start-}) (search rules) c.released_at-released.ensures.tells_released c.loop-time.invariant.1
+loop-p-init c =
+    let few = c.requires.few in
+    taking_begins (good_of _ _ _ _ c.requires) _ _ _ _ _ (search rules) (search rules) c.released_at-released.ensures.tells_released c.loop-time.invariant.1
     c.next_free-p.ensures
 
 pub job_from-job-requires : goal.job_from-job-requires
@@ -43,13 +35,16 @@ pub loop-left-init : goal.loop-left-init
 loop-left-init c = burst_begins c.loop-p.invariant c.loop-p-test.true
 
 pub offset_bounds-jobs-count : goal.offset_bounds-jobs-count
-offset_bounds-jobs-count c = record { fits = omega (arith, fits c{-BAD In-loop3-}) }
+offset_bounds-jobs-count c = record { fits = omega (arith, burst_room c.loop-left.invariant c.loop-p-test.true c.loop-left-test.true
+    (room_of _ _ _ _ c.requires _ c.first_words-first.ensures _ c.loop-time-test.true)) }
 
 pub bounds-jobs-count : goal.bounds-jobs-count
-bounds-jobs-count c = omega (arith, fits c{-BAD In-loop3-})
+bounds-jobs-count c = omega (arith, burst_room c.loop-left.invariant c.loop-p-test.true c.loop-left-test.true
+    (room_of _ _ _ _ c.requires _ c.first_words-first.ensures _ c.loop-time-test.true))
 
 pub overflow_add-count : goal.overflow_add-count
-overflow_add-count c = omega (arith, fits c{-BAD In-loop3-})
+overflow_add-count c = omega (arith, burst_room c.loop-left.invariant c.loop-p-test.true c.loop-left-test.true
+    (room_of _ _ _ _ c.requires _ c.first_words-first.ensures _ c.loop-time-test.true))
 
 pub loop-left-preserved : goal.loop-left-preserved
 loop-left-preserved c = burst_goes_on c.loop-left.invariant c.loop-p-test.true c.loop-left-test.true _
@@ -69,8 +64,10 @@ pub loop-time-smaller : goal.loop-time-smaller
 loop-time-smaller c = omega (arith, c.released_at-released.ensures.tells_released.after)
 
 pub loop-time-preserved : goal.loop-time-preserved
-loop-time-preserved c = let (told, due) = (c.released_at-released.ensures.tells_released, c.released_at-released.ensures.due_from_2) in
-    (told.within, times_go_on _ _ _ _ _ _ _ (wide start{-BAD Start-}) told (taking_ends c.loop-p.invariant c.loop-p-test.false), due)
+loop-time-preserved c =
+    let few = c.requires.few in
+    let told = c.released_at-released.ensures.tells_released in
+    (told.within, times_go_on _ _ _ _ _ _ _ (search rules) told (taking_ends c.loop-p.invariant c.loop-p-test.false), c.released_at-released.ensures.due_from_2)
 
 pub returns : goal.returns
 returns c = rw (words_relate _ _ _ c.first_words-first.ensures) (times_end _ _ _ _ _ c.loop-time.invariant.0 c.loop-time-test.false c.loop-time.invariant.1)

@@ -19,7 +19,7 @@ abbrev pub decreases-loop-p : goal.decreases-loop-p
 decreases-loop-p l = digit_count l.pending
 
 abbrev pub invariant-loop-time : goal.invariant-loop-time
-invariant-loop-time l = (l.time ≤ l.frame) × HoldsJobs (sequence_to (take l.n l.processes) (word_relation l.n l.first) l.time) (record { l.count = l.count; l.jobs = l.jobs }) × DueFrom l.n l.processes l.time l.due
+invariant-loop-time l = (l.time ≤ l.frame) × HoldsJobs (sequence_to (take l.n l.processes) (word_relation l.n l.first) l.time) (record { count = l.count; jobs = l.jobs }) × DueFrom l.n l.processes l.time l.due
 
 abbrev pub decreases-loop-time : goal.decreases-loop-time
 decreases-loop-time l = l.frame - l.time
