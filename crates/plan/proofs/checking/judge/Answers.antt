@@ -1,6 +1,7 @@
 use Rattle.std.proofs.Common.{arith, ⊎_elim, ◌-◌}
 use Rattle.plan.proofs.CheckLoops.{start, answered, finish, lower_end, found_own, end_small, hold, found_overlap, hold_more, found_soon, pass}
 use Rattle.plan.proofs.checking.judge.Goals as goal
+use Rattle.plan.proofs.checking.judge.Goals.{else-jobs-test, then-jobs-test+then-number-ne0, then-jobs-test+else-number-ne0+then-loop-i-test+then-overlaps, then-jobs-test+else-number-ne0+else-loop-i-test+then-soon}
 
 pub jobs-init : goal.jobs-init
 jobs-init c = start
@@ -27,3 +28,14 @@ pub jobs-preserved : goal.jobs-preserved
 jobs-preserved c = pass c.loop-i.invariant c.loop-i-test.false c.if-soon.false
 
 -- no fault, one of its own, an overlap, or a start too soon
+-- no fault, one of its own, an overlap, or a start too soon
+pub returns : goal.returns
+returns c =
+    let so_far = c.jobs.invariant in
+    let ended = c.answer_of.ensures in
+    elim c.jobs-test.branch [
+      | else-jobs-test w ↦ answered w.verdict-is (finish so_far w.jobs-test.false) ended
+      | then-jobs-test+then-number-ne0 w ↦ answered w.verdict-is (found_own so_far w.jobs-test.true w.own_fault-own.ensures w.number.ensures w.if-number-ne0.true) ended
+      | then-jobs-test+else-number-ne0+then-loop-i-test+then-overlaps w ↦ answered w.verdict-is (found_overlap w.loop-i.invariant w.loop-i-test.true w.overlaps.ensures w.if-overlaps.true) ended
+      | then-jobs-test+else-number-ne0+else-loop-i-test+then-soon w ↦ answered w.verdict-is (found_soon w.loop-i.invariant w.loop-i-test.false w.if-soon.true) ended
+    ]
