@@ -42,8 +42,8 @@ releases_to processes time p = (process_at processes p).burst * count time (rele
 abbrev pub of_process : ℕ → Job → Bool
 of_process p x = eqb x.process p
 
-abbrev pub field_own : ℕ → ℕ → Job → Bool
-field_own p t x = eqb x.process p && eqb x.release t
+abbrev pub own_at : ℕ → ℕ → Job → Bool
+own_at p t x = eqb x.process p && eqb x.release t
 
 module _ (processes : List Process) (time p : ℕ) where
   releases_none : releases_to processes 0 p ≡ 0
@@ -104,10 +104,10 @@ module _ (processes : List Process) (ahead : Relation) (R : Ranked ahead) where
   unfolding jobs_released
   released_time time = each_map (job_at processes time) (λ (x : Job). x.release ≡ time) 0 no_job (taken_at time) (record { at = λ i h. refl })
 
-  released_own : (time p : ℕ) → tally (field_own p time) (jobs_released processes ahead time) ≡ releases processes time p
+  released_own : (time p : ℕ) → tally (own_at p time) (jobs_released processes ahead time) ≡ releases processes time p
   unfolding jobs_released
   released_own time p =
-      tally_map (job_at processes time) (field_own p time) (taken_at time)
+      tally_map (job_at processes time) (own_at p time) (taken_at time)
       ∙ tally_same (λ x. eqb x p && eqb time time) (λ x. eqb x p) (taken_at time) (λ x. rw (eq-eqb time time refl) (split (eqb x p) (λ t. rw t) (λ t. rw t)))
       ∙ take_occurs ahead R (pending_count (pending_at time)) (pending_at time) refl p
       ∙ released_now_lem time processes p
@@ -166,22 +166,22 @@ module _ (processes : List Process) (ahead : Relation) (R : Ranked ahead) where
       later x b = record { process = b.process; at = b.at; early = omega (arith, b.early); deadline = b.deadline; budget = b.budget }
 
   -- of each process and time as many as it releases then
-  pub sequence_own : (time t p : ℕ) → t < time → tally (field_own p t) (sequence_to processes ahead time) ≡ releases processes t p
+  pub sequence_own : (time t p : ℕ) → t < time → tally (own_at p t) (sequence_to processes ahead time) ≡ releases processes t p
   unfolding sequence_to
   sequence_own zero t p l = absurd (omega arith)
   sequence_own (suc time) t p l =
-      tally_append (field_own p t) (sequence time) (released time)
+      tally_append (own_at p t) (sequence time) (released time)
       ∙ elim (dec_lt t time) [
         | yes k ↦
-            let none : tally (field_own p t) (released time) ≡ 0 =
-            tally_none (field_own p t) (released time) no_job (record { at = λ i g. other (get_or (released time) i no_job) (λ e. omega (arith, (released_time time).at i g)) }) in
+            let none : tally (own_at p t) (released time) ≡ 0 =
+            tally_none (own_at p t) (released time) no_job (record { at = λ i g. other (get_or (released time) i no_job) (λ e. omega (arith, (released_time time).at i g)) }) in
             omega (arith, sequence_own time t p k)
         | no k ↦
             let z : time ≡ t = omega arith in
-            let none : tally (field_own p t) (sequence time) ≡ 0 =
-            tally_none (field_own p t) (sequence time) no_job (record { at = λ i g. other (get_or (sequence time) i no_job) (λ e. omega (arith, ((sequence_each time).at i g).early)) }) in
-            let own : tally (field_own p t) (released time) ≡ releases processes t p =
-            subst (λ x. tally (field_own p x) (released time) ≡ releases processes x p) z (released_own time p) in
+            let none : tally (own_at p t) (sequence time) ≡ 0 =
+            tally_none (own_at p t) (sequence time) no_job (record { at = λ i g. other (get_or (sequence time) i no_job) (λ e. omega (arith, ((sequence_each time).at i g).early)) }) in
+            let own : tally (own_at p t) (released time) ≡ releases processes t p =
+            subst (λ x. tally (own_at p x) (released time) ≡ releases processes x p) z (released_own time p) in
             omega arith
       ]
     where
@@ -189,7 +189,7 @@ module _ (processes : List Process) (ahead : Relation) (R : Ranked ahead) where
       and_false true = refl
       and_false false = refl
 
-      other : (x : Job) → (x.release ≡ t → ⊥) → field_own p t x ≡ false
+      other : (x : Job) → (x.release ≡ t → ⊥) → own_at p t x ≡ false
       other x d = rw (ne_eqb x.release t d) (and_false (eqb x.process p))
 
   -- by release; at one release none that comes before another stands after it

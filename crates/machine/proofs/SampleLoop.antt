@@ -36,13 +36,13 @@ module _ (input : List ℕ) where
   start = order_zero one
 
   module _ (k : ℕ) (so_far : ok_samples k input ≡ done tt) {t : Bool} (judged : t ≡ good_sample (record { present = get_or input (2 * k) 0; value = get_or input (2 * k + 1) 0 })) where
-    pub go_on : not t ≡ false → ok_samples (k + 1) input ≡ done tt
+    pub go_on : t ≡ true → ok_samples (k + 1) input ≡ done tt
     unfolding ok_samples sample_at
-    go_on e = rw (add-one k) (order_more one k so_far ∙ rw (sym judged ∙ not-false t e))
+    go_on e = rw (add-one k) (order_more one k so_far ∙ rw (sym judged ∙ e))
 
-    pub stop : (count : ℕ) → k < count → not t ≡ true → ok_samples count input ≡ refused BadSample k
+    pub stop : (count : ℕ) → k < count → t ≡ false → ok_samples count input ≡ refused BadSample k
     unfolding ok_samples sample_at
-    stop count h e = order_refused one k count BadSample k h so_far (rw (sym judged ∙ not-true t e))
+    stop count h e = order_refused one k count BadSample k h so_far (rw (sym judged ∙ e))
 
   pub finish : (k count : ℕ) → k ≤ count → count ≤ k → ok_samples k input ≡ done tt → ok_samples count input ≡ done tt
   finish k count h l e = let z : count ≡ k = omega arith in rw z e

@@ -50,7 +50,7 @@ module _ (net : Net) (p : ℕ) where
   -- they agree still when the same variable is set to the same
   set_agree : (a v w : ℕ) (s t : State) → v ≡ w → Agree net p s t → Agree net p (set_var p a v s) (set_var p a w t)
   set_agree a v w s t e g = record {
-    same = λ r. elim r [
+    same = λ r. elim r as (λ k. touches net p k ≡ true → view k (set_var p a v s) ≡ view k (set_var p a w t)) [
       | variable i ↦ λ h. nth_set_both s.variables t.variables (8 * p + a) i v w (g.same (variable i) h) e
       | channel c ↦ λ h. g.same (channel c) h
     ];
@@ -59,7 +59,7 @@ module _ (net : Net) (p : ℕ) where
   -- and when the same channel is
   put_agree : (c : ℕ) (x y : Contents) (s t : State) → x ≡ y → Agree net p s t → Agree net p (set_contents c x s) (set_contents c y t)
   put_agree c x y s t e g = record {
-    same = λ r. elim r [
+    same = λ r. elim r as (λ k. touches net p k ≡ true → view k (set_contents c x s) ≡ view k (set_contents c y t)) [
       | variable i ↦ λ h. g.same (variable i) h
       | channel d ↦ λ h. nth_set_both s.channels t.channels c d x y (g.same (channel d) h) e
     ];

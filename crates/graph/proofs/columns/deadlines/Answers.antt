@@ -1,0 +1,12 @@
+use Rattle.std.proofs.Common.{◌-◌}
+use Rattle.graph.proofs.ColumnLoop.{start, turn, finish}
+use Rattle.graph.proofs.columns.deadlines.Goals as goal
+
+pub loop-j-init : goal.loop-j-init
+loop-j-init c = start c.zeros-column.ensures
+
+pub loop-j-preserved : goal.loop-j-preserved
+loop-j-preserved c = turn c.loop-j.invariant c.loop-j-test.true
+
+pub returns : goal.returns
+returns c = finish c.loop-j.invariant c.loop-j-test.false

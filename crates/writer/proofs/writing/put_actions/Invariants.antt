@@ -1,0 +1,12 @@
+-- `writing::put_actions` meets its contract. The loop's invariant: the first k actions are laid; the measure, those still to lay.
+use Rattle.std.proofs.Common.{◌*◌, ◌-◌, ◌≤◌}
+use Rattle.network.specs.Lists.{each_of, table}
+use Rattle.network.specs.Net.{four_fields, four_at}
+use Rattle.writer.specs.Laid.{Laid}
+use Rattle.writer.proofs.writing.put_actions.Given as goal
+
+abbrev pub invariant-loop-k : goal.invariant-loop-k
+invariant-loop-k l = (l.k ≤ l.n) × Laid l.initial.out l.from (each_of four_fields (table l.k (λ k. four_at l.actions l.p k))) (20 * l.k) l.out l.at
+
+abbrev pub decreases-loop-k : goal.decreases-loop-k
+decreases-loop-k l = l.n - l.k

@@ -1,0 +1,12 @@
+-- `writing::put_pairs` meets its contract. The loop's invariant: the first i are laid; the measure, those still to lay.
+use Rattle.std.proofs.Common.{take, ◌*◌, ◌-◌, ◌≤◌}
+use Rattle.network.specs.Lists.{each_of}
+use Rattle.network.specs.Net.{pair_fields}
+use Rattle.writer.specs.Laid.{Laid}
+use Rattle.writer.proofs.writing.put_pairs.Given as goal
+
+abbrev pub invariant-loop-i : goal.invariant-loop-i
+invariant-loop-i l = (l.i ≤ l.n) × Laid l.initial.out l.from (each_of pair_fields (take l.i l.pairs)) (10 * l.i) l.out l.at
+
+abbrev pub decreases-loop-i : goal.decreases-loop-i
+decreases-loop-i l = l.n - l.i
