@@ -1,12 +1,18 @@
 // The longest file: 12 processes, 66 pairs, 16 channels and 24 actions each, every number as long as it can be.
 use network::{Channel, Network, Pair, Process};
 use shown::files;
+use std::io;
 
-pub fn run() {
+pub fn run(rt: &impl Print) -> io::Result<()> {
     let longest = network_of();
     let mut file = [0u8; 2600];
-    files::write(b"the longest network into 2600 bytes", longest, &mut file);
-    files::read(b"the longest file", &file);
+    files::write(
+        rt,
+        b"the longest network into 2600 bytes",
+        longest,
+        &mut file,
+    )?;
+    files::read(rt, b"the longest file", &file)
 }
 
 fn network_of() -> Network {
@@ -50,18 +56,16 @@ fn no_actions() -> [u32; 1152] {
 // Each process before all that have a higher number.
 fn all_pairs() -> [Pair; 66] {
     let mut pairs = no_pairs();
-    let mut higher = 0u32;
-    let mut lower = 1u32;
-    let mut i = 0usize;
-    while i < 66 {
-        pairs[i] = Pair { higher, lower };
+    let mut higher = 0;
+    let mut lower = 1;
+    for pair in &mut pairs {
+        *pair = Pair { higher, lower };
         if lower < 11 {
             lower += 1;
         } else {
             higher = (higher + 1) % 12;
             lower = (higher + 1) % 12;
         }
-        i += 1;
     }
     pairs
 }
@@ -69,15 +73,13 @@ fn all_pairs() -> [Pair; 66] {
 // Variable 7 becomes 4,294,967,295, over and over.
 fn all_actions() -> [u32; 1152] {
     let mut actions = no_actions();
-    let mut i = 0usize;
-    while i < 1152 {
+    for (i, number) in actions.iter_mut().enumerate() {
         if i % 4 == 1 {
-            actions[i] = 7;
+            *number = 7;
         }
         if i % 4 == 2 {
-            actions[i] = 4_294_967_295;
+            *number = 4_294_967_295;
         }
-        i += 1;
     }
     actions
 }

@@ -13,14 +13,16 @@ mod runs;
 mod times;
 mod turn_runs;
 
-fn main() {
-    numbers::run();
-    files::run();
-    graphs::run();
-    runs::run();
-    lent::run();
-    plans::run();
-    turn_runs::run();
-    times::run();
-    listings::run();
+use std::io;
+
+fn main(rt: HostRuntime) -> io::Result<()> {
+    numbers::run(&rt)?;
+    files::run(&rt)?;
+    graphs::run(&rt)?;
+    runs::run(&rt)?;
+    lent::run(&rt)?;
+    plans::run(&rt)?;
+    turn_runs::run(&rt)?;
+    times::run(&rt)?;
+    listings::run(&rt)
 }

@@ -50,7 +50,7 @@ pub record System (K : Shape) : Type 1 where
   -- all steps from here to its end: the state, and the output
   pub rest : ℕ → K.Own → K.State → K.State
   pub rest_output : ℕ → K.Own → K.State → K.Output
-  -- the zero_delay_state run: the state before job j
+  -- the zero-delay run: the state before job j
   pub before : ℕ → K.State
   -- it does the jobs whole, one after another
   pub before_next : (j : ℕ) → before (suc j) ≡ rest j (first j) (before j)
@@ -74,7 +74,7 @@ module _ {K : Shape} (Y : System K) where
   open K use {State, Own, Output, Place, view}
   open Y use {touches, precedes, first, ended, output, next_own, next_state, rest, rest_output, before}
 
-  -- the output of job j in the zero_delay_state run
+  -- the output of job j in the zero-delay run
   abbrev pub due : ℕ → Output
   due j = rest_output j (first j) (before j)
 
@@ -97,7 +97,7 @@ module _ {K : Shape} (Y : System K) where
     pub becomes : σ'.status j ≡ settle j (next_own j l σ.shared)
     pub moved : σ'.shared ≡ next_state j l σ.shared
 
-  -- to complete job j from here gives what the zero_delay_state run gives
+  -- to complete job j from here gives what the zero-delay run gives
   pub record Good (j : ℕ) (l : Own) (s : State) : Type 0 where
     pub output : rest_output j l s ≡ due j
     pub states : (r : Place) → touches j r ≡ true → view r (rest j l s) ≡ view r (before (suc j))
@@ -113,7 +113,7 @@ module _ {K : Shape} (Y : System K) where
     -- what precedes a job that has begun has finished
     pub order : (i j : ℕ) → precedes i j → is_wait (σ.status j) ≡ false → is_fin (σ.status i) ≡ true
     pub fine : (j : ℕ) → Fine j (σ.status j) σ.shared
-    -- a place of which the jobs below j that touch it have finished, and no other has begun, is as the zero_delay_state run has it before job j
+    -- a place of which the jobs below j that touch it have finished, and no other has begun, is as the zero-delay run has it before job j
     pub here : (r : Place) (j : ℕ)
         → ((i : ℕ) → i < j → touches i r ≡ true → is_fin (σ.status i) ≡ true)
         → ((i : ℕ) → j ≤ i → touches i r ≡ true → is_wait (σ.status i) ≡ true)
@@ -224,7 +224,7 @@ module _ {K : Shape} (Y : System K) where
       here = λ r j p q. split (touches k r) (λ u. here_own r j u p q) (λ u. here_other r j u p q);
     }
 
-  -- the start: nothing has begun, and every resource is as the zero_delay_state run finds it
+  -- the start: nothing has begun, and every resource is as the zero-delay run finds it
   pub inv_start : (σ : Turn K) → ((j : ℕ) → σ.status j ≡ waiting) → ((r : Place) → view r σ.shared ≡ view r (before 0)) → Inv σ
   inv_start σ w e = record {
     order = λ i j p n. clash (ap is_wait (w j)) n;
@@ -273,9 +273,9 @@ module _ {K : Shape} (Y : System K) where
   inv_reach (act {σ₁ = τ} {σ₂ = τ'} j l p a) v = inv_act τ τ' j l a (inv_reach p v)
 
   pub record Determined (σ : Turn K) : Type 0 where
-    -- a finished job's output is the zero_delay_state run's
+    -- a finished job's output is the zero-delay run's
     pub outputs : (j : ℕ) (o : Output) → σ.status j ≡ finished o → o ≡ due j
-    -- when the first n jobs have finished, and no other has begun, every place is as the zero_delay_state run leaves it
+    -- when the first n jobs have finished, and no other has begun, every place is as the zero-delay run leaves it
     pub final : (n : ℕ) → ((j : ℕ) → j < n → is_fin (σ.status j) ≡ true) → ((j : ℕ) → n ≤ j → is_wait (σ.status j) ≡ true)
         → (r : Place) → view r σ.shared ≡ view r (before n)
 
@@ -285,6 +285,6 @@ module _ {K : Shape} (Y : System K) where
     final = λ n f w r. v.here r n (λ i h t. f i h) (λ i h t. w i h);
   }
 
-  -- every interleaving that starts where the zero_delay_state run does is determined
+  -- every interleaving that starts where the zero-delay run does is determined
   pub determined : {σ σ' : Turn K} → Reach σ σ' → ((j : ℕ) → σ.status j ≡ waiting) → ((r : Place) → view r σ.shared ≡ view r (before 0)) → Determined σ'
   determined {σ} {σ'} p w e = inv_determined σ' (inv_reach p (inv_start σ w e))

@@ -24,7 +24,7 @@ module _ {K : Shape} (D : Steps K) where
   abbrev pub rest : ℕ → K.Own → K.State → K.Own × K.State
   rest j l s = goes (D.left j l) j l s
 
-  -- the zero_delay_state run: the state before job j, and job j's output
+  -- the zero-delay run: the state before job j, and job j's output
   abbrev pub zero_delay_state : K.State → ℕ → K.State
   zero_delay_state s zero = s
   zero_delay_state s (suc j) = (rest j (D.first j) (zero_delay_state s j)).1

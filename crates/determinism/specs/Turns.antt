@@ -1,4 +1,4 @@
--- The turns of a frame make an interleaving, so its finished jobs and its end are those of the zero_delay_state run.
+-- The turns of a frame make an interleaving, so its finished jobs and its end are those of the zero-delay run.
 use Rattle.std.specs.Prelude.{ℕ, zero, suc, ◌≤◌, ◌<◌, ◌≡◌, refl, ◌≢◌, true, false, cond, not, ◌&&◌, eqb}
 use Rattle.std.proofs.Common.{sym, ap, ◌∙◌, arith, eqb-true, eq-eqb, ne_eqb}
 use Rattle.std.proofs.Math.Decide.{ℕ_discrete}
@@ -187,11 +187,11 @@ module _ {K : Shape} (U : Setup K) (G : Lawful U) where
       inv = Interleaving.inv_start (system G.machine s₀) (seen U c) (fresh_waits c f) f.same;
     }
 
-    -- a finished job's output is the one that the zero_delay_state run gives
+    -- a finished job's output is the one that the zero-delay run gives
     pub finished_output : (c : C) → Sound c → (j : ℕ) → is_finished c j ≡ true → output_of c j ≡ zero_output U.steps s₀ j
     finished_output c v j e = (Interleaving.inv_determined (system G.machine s₀) (seen U c) v.inv).outputs j (output_of c j) (rw e)
 
-    -- when all jobs have finished, every place is as the zero_delay_state run leaves it
+    -- when all jobs have finished, every place is as the zero-delay run leaves it
     pub final_state : (c : C) → Sound c → ((j : ℕ) → j < n → is_finished c j ≡ true) → (r : Place) → view r (shared c) ≡ view r (zero_delay_state U.steps s₀ n)
     final_state c v f = (Interleaving.inv_determined (system G.machine s₀) (seen U c) v.inv).final n (λ j h. is_finished_fin c j (f j h))
         (λ j h. rw (v.ok.beyond j h) (ap is_wait (busy_none (job c (processor j)) (own c (processor j)) j (λ z. omega (arith, (v.ok.here (processor j) j z).0)))))

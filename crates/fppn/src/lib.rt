@@ -156,7 +156,7 @@ pub extern "C" fn fppn_graph(file: &[u8]) -> FppnGraphResult
     }
 }
 
-// The zero_delay_state run of a file's network for so many frames.
+// The zero-delay run of a file's network for so many frames.
 #[unsafe(no_mangle)]
 pub extern "C" fn fppn_zero_delay(
     file: &[u8],

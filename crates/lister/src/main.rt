@@ -1,12 +1,13 @@
 // The lister: reads a network file on standard input, up to 4,096 bytes of it, and prints its listing for two processors, or why it is refused.
 #![tactic(auto)]
 
-use libc::{STDIN_FILENO, STDOUT_FILENO};
+use std::io;
+use std::io::Read;
 
-fn main() {
-    let mut file = io::buffer();
-    let size = io::read_full(STDIN_FILENO, &mut file);
-    let mut text = io::buffer();
-    let length = listing::page(&file[..size], &mut text);
-    io::write_all(STDOUT_FILENO, &text[..length]);
+fn main(rt: HostRuntime) -> io::Result<()> {
+    let mut file = Vec::new(rt.alloc());
+    rt.reader().take(4096).read_to_end(&mut file)?;
+    let mut text = [0u8; 4096];
+    let length = listing::page(&file, &mut text);
+    rt.write_all(&text[..length])
 }

@@ -1,4 +1,4 @@
--- What a call that is done was of: an accepted network, a feasible plan, and the run; and the zero_delay_state run of the same file, frames and input is then done too.
+-- What a call that is done was of: an accepted network, a feasible plan, and the run; and the zero-delay run of the same file, frames and input is then done too.
 use Rattle.std.specs.Prelude.{ℕ, ◌*◌, ◌≤◌, ◌≡◌, true, ◌&&◌, List, length}
 use Rattle.std.proofs.Common.{sym, subst, ◌∙◌, leb-true}
 use Rattle.std.proofs.Math.Path.{ap}

@@ -1,4 +1,4 @@
--- The jobs of a frame as a machine of `determinism`; and the zero_delay_state run as its run of whole jobs.
+-- The jobs of a frame as a machine of `determinism`; and the zero-delay run as its run of whole jobs.
 use Prim.Native.Nat.{ℕ, zero, suc, ◌+◌, ◌*◌, ◌-◌, ◌%◌, ◌≤◌, ◌<◌}
 use Rattle.std.specs.Prelude.{◌≡◌, ◌⊎◌, true, List, [], ◌∷◌, ◌++◌}
 use Rattle.std.proofs.Math.Path.{refl}
@@ -102,7 +102,7 @@ module _ (w : Work) (input : List ℕ) (f : ℕ) where
     conflict = g.conflict;
   }
 
--- ---- the zero_delay_state run
+-- ---- the zero-delay run
 
 module _ (w : Work) (input : List ℕ) where
   abbrev J : ℕ

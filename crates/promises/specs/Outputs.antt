@@ -1,4 +1,4 @@
--- The outputs of a run are those of the zero_delay_state run: of the jobs that have finished, and of all when the last frame has.
+-- The outputs of a run are those of the zero-delay run: of the jobs that have finished, and of all when the last frame has.
 use Rattle.std.specs.Prelude.{ℕ, suc, ◌+◌, ◌*◌, ◌-◌, ◌≤◌, ◌<◌, ◌≡◌, ◌⊎◌, true, false}
 use Rattle.std.proofs.Common.{sym, ap, ◌∙◌, inl, inr, mul_comm, suc-mul, mul-le-mul_right, arith}
 use Rattle.std.proofs.Math.Decide.{dec_lt, ℕ_discrete}
@@ -23,7 +23,7 @@ module _ (r : Run) (processors : ℕ) (g : Fit r processors) (e : ℕ) (c : Betw
   below : (f j n : ℕ) → f < n → j < J → f * J + j < n * J
   below f j n h l = omega (arith, mul-le-mul_right J h, suc-mul f J)
 
-  -- a finished job's output is that of the job done whole in the zero_delay_state run
+  -- a finished job's output is that of the job done whole in the zero-delay run
   pub finished_is : (f j : ℕ) → HasFinished J c f j → (f < r.asked) × (sample_at c.words (f * J + j) ≡ (done_job r.work r.input (f * J + j)).output)
   finished_is f j (l, inl h) = (omega (arith, v.frames, v.asked), v.before (f * J + j) (below f j e (omega (arith, v.frames)) l))
   finished_is f j (l, inr (z, t)) =

@@ -1,4 +1,4 @@
--- What is promised of every turn run whose call is done: whatever the plan and the turns, what has finished is what the zero_delay_state run gives;
+-- What is promised of every turn run whose call is done: whatever the plan and the turns, what has finished is what the zero-delay run gives;
 -- the run goes forward; and a job stays on its processor and is not interrupted.
 use Rattle.std.specs.Prelude.{ℕ, suc, ◌+◌, ◌*◌, ◌≤◌, ◌<◌, ◌≡◌, ◌≢◌, false, List, length, get_or}
 use Rattle.std.proofs.Common.{sym, ap, subst, ◌∙◌, arith}
@@ -23,9 +23,9 @@ use Rattle.promises.specs.Finishing.{finishes_there}
 
 -- ---- the statements
 
--- P6: what a run of so many frames of J jobs has done (c) is what the zero_delay_state run does (zero)
+-- P6: what a run of so many frames of J jobs has done (c) is what the zero-delay run does (zero)
 pub record AsZeroDelay (J frames : ℕ) (c : Between) (zero : Sofar) : Type 0 where
-  -- a job that has finished: its output words are the zero_delay_state run's
+  -- a job that has finished: its output words are the zero-delay run's
   pub finished : (f j : ℕ) → HasFinished J c f j → sample_at c.words (f * J + j) ≡ sample_at zero.words (f * J + j)
   -- a job that has not: it has left nothing
   pub unfinished : (f j : ℕ) → j < J → ¬ (HasFinished J c f j) → sample_at c.words (f * J + j) ≡ blank
@@ -76,7 +76,7 @@ pub record Promised (file : List ℕ) (m frames : ℕ) (plan input list output :
   -- the network of the file
   pub net : Net
   pub read : load file ≡ done net
-  -- the zero_delay_state run of the same file, frames and input is done too
+  -- the zero-delay run of the same file, frames and input is done too
   pub zero : Sofar
   pub ran : zero_delay file frames input output ≡ done zero
   -- both have two words for each job, and the output memory has room for them
@@ -156,7 +156,7 @@ module _ (file : List ℕ) (m frames : ℕ) (plan input list output : List ℕ) 
         uninterrupted = uninterrupted r m k.fit list;
       }
 
-  -- a finished job's output is that of the job done whole in the zero_delay_state run
+  -- a finished job's output is that of the job done whole in the zero-delay run
   whole : (net : Net) → load file ≡ done net → (f j : ℕ) → HasFinished (job_count_of (work_of net)) c f j
       → sample_at c.words (f * job_count_of (work_of net) + j) ≡ (done_job (work_of net) input (f * job_count_of (work_of net) + j)).output
   whole net read f j =

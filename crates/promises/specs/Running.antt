@@ -52,7 +52,7 @@ module _ (r : Run) (processors : ℕ) (g : Fit r processors) where
   abbrev J : ℕ
   J = job_count_of r.work
 
-  -- the zero_delay_state run's state at the start of frame f
+  -- the zero-delay run's state at the start of frame f
   abbrev pub base : ℕ → State
   base f = (ran_jobs r.work r.input (f * job_count_of r.work)).state
 

@@ -41,7 +41,7 @@ writing_fits network room bytes e =
     required (leb (length (encode_network network)) room) ShortBuffer 0 _ bytes e₁ λ fits e₂.
     subst (λ (b : List ℕ). length b ≤ room) (done_same e₂) (leb-true (length (encode_network network)) room fits)
 
--- ---- the zero_delay_state run
+-- ---- the zero-delay run
 
 module _ (file : List ℕ) (frames : ℕ) (input output : List ℕ) where
   pub honest_zero_delay : Honest (zero_delay file frames input output)

@@ -32,7 +32,7 @@ pub record NoGraph (r : PrecedenceGraph) : Type 0 where
   pub jobs : r.jobs ≡ replicate 128 (record { process = 0; release = 0; deadline = 0; budget = 0 })
   pub rows : r.rows ≡ replicate 128 (record { low = 0; high = 0 })
 
--- of the zero_delay_state run
+-- of the zero-delay run
 pub record NoRun (r : Ran) : Type 0 where
   pub variables : r.variables ≡ replicate 96 0
   pub channels : r.channels ≡ replicate 16 (record { number = 0; values = replicate 8 0; loss = 0 })

@@ -1,53 +1,46 @@
 // A case's line: words, numbers and bytes, on standard output.
-use libc::STDOUT_FILENO;
 use reply::Reply;
+use std::io;
 
-pub fn text(words: &[u8]) {
-    io::write_all(STDOUT_FILENO, words);
+pub fn text(rt: &impl Print, words: &[u8]) -> io::Result<()> {
+    rt.write_all(words)
 }
 
-pub fn number(n: u64) {
-    io::print_decimal(STDOUT_FILENO, n);
+pub fn number(rt: &impl Print, n: u64) -> io::Result<()> {
+    print!(rt; "{n}")
 }
 
 // Words, and a number after them.
-pub fn counted(words: &[u8], n: u64) {
-    text(words);
-    number(n);
+pub fn counted(rt: &impl Print, words: &[u8], n: u64) -> io::Result<()> {
+    text(rt, words)?;
+    number(rt, n)
 }
 
 // A reply and its place.
-pub fn answer(reply: Reply, place: usize) {
-    counted(b": reply ", reply::number(reply) as u64);
-    counted(b" at ", place as u64);
+pub fn answer(rt: &impl Print, reply: Reply, place: usize) -> io::Result<()> {
+    counted(rt, b": reply ", reply::number(reply) as u64)?;
+    counted(rt, b" at ", place as u64)
 }
 
 // Each byte after a space, in hexadecimal.
-pub fn bytes(s: &[u8]) {
-    let mut i = 0;
-    while i < s.len() {
-        text(b" ");
-        let b = s[i];
-        io::print_hex(STDOUT_FILENO, wide(b), 2);
-        i += 1;
+pub fn bytes(rt: &impl Print, s: &[u8]) -> io::Result<()> {
+    for &b in s {
+        print!(rt; " {:02x}", wide(b))?;
     }
+    Ok(())
 }
 
 // The first byte and the last, if there are any.
-pub fn ends(s: &[u8]) {
-    if 0 < s.len() {
-        text(b" first ");
-        let first = s[0];
-        io::print_hex(STDOUT_FILENO, wide(first), 2);
-        text(b", last ");
-        let last = s[s.len() - 1];
-        io::print_hex(STDOUT_FILENO, wide(last), 2);
+pub fn ends(rt: &impl Print, s: &[u8]) -> io::Result<()> {
+    if let (Some(&first), Some(&last)) = (s.first(), s.last()) {
+        print!(rt; " first {:02x}, last {:02x}", wide(first), wide(last))?;
     }
+    Ok(())
 }
 
-pub fn refusal(reply: Reply, place: usize) {
-    counted(b"refused ", reply::number(reply) as u64);
-    counted(b" at ", place as u64);
+pub fn refusal(rt: &impl Print, reply: Reply, place: usize) -> io::Result<()> {
+    counted(rt, b"refused ", reply::number(reply) as u64)?;
+    counted(rt, b" at ", place as u64)
 }
 
 fn wide(b: u8) -> u64 {

@@ -18,7 +18,7 @@ use Rattle.zero_delay.specs.Opens.{run_definitions}
 pub data Question : Type 0 where
   -- the number at the start of some bytes
   number_of : List ℕ → Question
-  -- the zero_delay_state run of a file, for so many frames, with some input; as many words are lent for the output
+  -- the zero-delay run of a file, for so many frames, with some input; as many words are lent for the output
   run_of : List ℕ → ℕ → List ℕ → Question
   -- the turn run of a file by a plan on one processor, for so many frames, with some input and so many turns of that processor
   turns_of : List ℕ → List ℕ → ℕ → List ℕ → ℕ → Question

@@ -35,10 +35,10 @@ use Rattle.turns.specs.declared.TurnRan.{TurnRan}
 
 -- ---- the statements
 
--- P6: what the run returned (r) and left in the output memory (after), beside what the zero_delay_state run of the same file, frames, input and memory
+-- P6: what the run returned (r) and left in the output memory (after), beside what the zero-delay run of the same file, frames, input and memory
 -- returns (z) and leaves (kept); J jobs in a frame
 pub record AsZeroDelayRun (J frames : ℕ) (r : TurnRan) (after : List ℕ) (z : Ran) (kept : List ℕ) : Type 0 where
-  -- every job of a frame that has finished: its output is the zero_delay_state run's
+  -- every job of a frame that has finished: its output is the zero-delay run's
   pub finished : (f j : ℕ) → f < r.frames → j < J → sample_at after (f * J + j) ≡ sample_at kept (f * J + j)
   -- every other job too, or it has not finished and has left (0, 0)
   pub either : (f j : ℕ) → f < frames → j < J → (sample_at after (f * J + j) ≡ sample_at kept (f * J + j)) ⊎ (sample_at after (f * J + j) ≡ blank)
@@ -62,7 +62,7 @@ pub record Kept (file : List ℕ) (m frames : ℕ) (plan input list before : Lis
   -- the network of the file
   pub net : Net
   pub read : load file ≡ done net
-  -- the zero_delay_state run is done too
+  -- the zero-delay run is done too
   pub in_order : (ran_of (zero_delay file frames input before)).answer.reply ≡ Done
   pub as_zero_delay : AsZeroDelayRun (job_count_of (work_of net)) frames r after
       (ran_of (zero_delay file frames input before)) (filled_by (zero_delay file frames input before) before)

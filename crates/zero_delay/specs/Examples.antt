@@ -1,4 +1,4 @@
--- The zero_delay_state run of network K, as the definitions compute it.
+-- The zero-delay run of network K, as the definitions compute it.
 use Rattle.std.specs.Prelude.{ℕ, ◌≡◌, refl, List, [], ◌∷◌, ◌++◌, map, replicate}
 use Rattle.reply.specs.Reply.{reply_number}
 use Rattle.reply.specs.declared.Answer.{Answer}

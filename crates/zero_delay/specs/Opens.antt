@@ -1,4 +1,4 @@
--- One name that opens all the definitions of the zero_delay_state run, for examples that are computed: `unfolding run_definitions`.
+-- One name that opens all the definitions of the zero-delay run, for examples that are computed: `unfolding run_definitions`.
 use Rattle.machine.specs.Opens.{machine_definitions}
 use Rattle.zero_delay.specs.ZeroDelay.{jobs_done, ran_jobs, run_work, zero_delay, ran_of, filled_by}
 

@@ -1,4 +1,4 @@
--- The zero_delay_state run: the jobs one after another in sequence, frame after frame.
+-- The zero-delay run: the jobs one after another in sequence, frame after frame.
 use Rattle.std.specs.Prelude.{ℕ, zero, suc, ◌*◌, ◌%◌, List, [], ◌++◌, map, replicate}
 use Rattle.std.proofs.lemmas.List.Edits.{sets}
 use Rattle.reply.specs.Result.{Result, done, and_then, answer_of, or_zero}

@@ -1,4 +1,4 @@
-// The zero_delay_state run: the jobs of a network one after another in sequence, frame after frame.
+// The zero-delay run: the jobs of a network one after another in sequence, frame after frame.
 #![tactic(auto)]
 
 pub mod empty;

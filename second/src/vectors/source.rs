@@ -5,42 +5,76 @@ use crate::network::Network;
 
 /// The longest list of items or arguments on one line.
 const WIDTH: usize = 60;
+/// The longest line.
+const LINE: usize = 100;
+/// The longest item of a list that has several on a line.
+const ITEM: usize = 10;
 
 const HEAD: &str = "\
 // A fixed sample of the second program's generated cases, made by it (second/vectors). What each prints is what it says itself.
-use shown::files;
-use shown::graphs;
-use shown::listings;
-use shown::plans;
-use shown::ran;
-use shown::times;
-use shown::turn_runs;
+#![tactic(auto)]
+
+use shown::{files, graphs, listings, plans, ran, times, turn_runs};
+use std::io;
 ";
 
-/// A function for each call, and `main`, which makes them all.
+/// A function for each call, one for the calls of each function of `shown`, and `main`, which makes
+/// them all.
 pub fn module(sample: &[Vector]) -> String {
-    let name = |vector: &Vector| {
-        let (label, _) = vector.line.split_once(':').expect("a line has a label");
-        label.replace(' ', "_")
-    };
-    let all = sample.iter().map(|vector| format!("{}();", name(vector)));
-    let main = function("main", all);
-    let each = sample.iter().map(|vector| {
-        let made = function(&name(vector), vector.statements.iter().cloned());
-        format!("\n{made}")
+    let kinds = sample.chunk_by(|one, next| kind(one) == kind(next));
+    let kinds: Vec<&[Vector]> = kinds.collect();
+    let all = kinds
+        .iter()
+        .map(|calls| format!("{}(&rt)", kind(&calls[0])));
+    let main = function("main(rt: HostRuntime)", &in_turn(all));
+    let each_kind = kinds.iter().map(|calls| {
+        let all = calls.iter().map(|vector| format!("{}(rt)", name(vector)));
+        printing(&kind(&calls[0]), &in_turn(all))
     });
-    format!("{HEAD}\n{main}{}", each.collect::<String>())
+    let each_call = sample.iter().map(|vector| {
+        let statements = vector.statements.join("\n");
+        printing(&name(vector), statements.trim_end_matches(';'))
+    });
+    let rest: String = each_kind.chain(each_call).collect();
+    format!("{HEAD}\n{main}{rest}")
 }
 
-fn function(name: &str, statements: impl Iterator<Item = String>) -> String {
-    let body: String = statements
-        .map(|statement| format!("    {}\n", statement.replace('\n', "\n    ")))
-        .collect();
-    format!("fn {name}() {{\n{body}}}\n")
+/// The name of the function that makes a call: its label.
+fn name(vector: &Vector) -> String {
+    let (label, _) = vector.line.split_once(':').expect("a line has a label");
+    label.replace(' ', "_")
 }
 
-/// A call, on one line if that is short enough.
+/// The name of the function for all calls of the function that this one calls last.
+fn kind(vector: &Vector) -> String {
+    let last = vector.statements.last().expect("a call is made");
+    let (called, _) = last.split_once('(').expect("a call has arguments");
+    format!("cases_of_{}", called.replace("::", "_"))
+}
+
+/// Calls that can fail, one after the other.
+fn in_turn(calls: impl Iterator<Item = String>) -> String {
+    calls.collect::<Vec<_>>().join("?;\n")
+}
+
+/// A function that prints, after an empty line.
+fn printing(name: &str, body: &str) -> String {
+    format!("\n{}", function(&format!("{name}(rt: &impl Print)"), body))
+}
+
+fn function(head: &str, body: &str) -> String {
+    let body = body.replace('\n', "\n    ");
+    format!("fn {head} -> io::Result<()> {{\n    {body}\n}}\n")
+}
+
+/// A call, on one line if that is short enough. One whose answer gets no name prints, by the handle.
 pub fn call(function: &str, arguments: &[&str]) -> String {
+    let handle: &[&str] = if function.starts_with("let ") {
+        &[]
+    } else {
+        &["rt"]
+    };
+    let arguments = [handle, arguments].concat();
     let all = arguments.join(", ");
     if all.len() <= WIDTH {
         return format!("{function}({all});");
@@ -80,8 +114,27 @@ pub fn declared(name: &str, words: &[u32]) -> String {
     if all.len() <= WIDTH {
         return format!("let {name} = [{all}];");
     }
-    let lines: String = items.iter().map(|item| format!("    {item},\n")).collect();
+    let lines: String = filled(&items)
+        .iter()
+        .map(|line| format!("    {line}\n"))
+        .collect();
     format!("let {name} = [\n{lines}];")
+}
+
+/// Lines of a list's items: as many on a line as it has room for, if they are all short, and else one.
+fn filled(items: &[String]) -> Vec<String> {
+    let room = LINE - 8;
+    let are_short = items.iter().all(|item| item.len() <= ITEM);
+    let mut lines: Vec<String> = Vec::new();
+    for item in items {
+        match lines.last_mut() {
+            Some(line) if are_short && line.len() + item.len() + 2 <= room => {
+                line.push_str(&format!(" {item},"));
+            }
+            _ => lines.push(format!("{item},")),
+        }
+    }
+    lines
 }
 
 /// Statements that change the fields of `one`, called `net`, to those of `other`.
