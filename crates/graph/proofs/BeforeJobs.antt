@@ -9,7 +9,7 @@ use native.Mathlib.Omega.{arith}
 use lib.ListN.{length, get_or, set, take, replicate, length-set, length-replicate, get_or-replicate}
 use lib.Seq.{get_or-set_same, get_or-set_other, get_or-take}
 use lib.Dec.{ltb, eqb}
-use borrow.Author.Tests.{lt-ltb, le-ltb, ltb-true, eqb-true, eq-eqb, ne_eqb}
+use borrow.Author.Tests.{lt-ltb, le-ltb, eqb-true, eq-eqb, ne_eqb}
 use Rattle.reply.specs.Tools.{any}
 use Rattle.reply.specs.Tests.{split, both, both_true, same_test}
 use Rattle.reply.specs.AllAny.{any_zero, any_suc, any_true, any_make, any_none}

@@ -5,8 +5,8 @@ use mathlib.Core.Bool.{Bool, true, false, not, ◌&&◌, ◌||◌}
 use native.Mathlib.Decide.{dec_lt}
 use native.Mathlib.Nat.{one-mul}
 use native.Mathlib.Omega.{arith}
-use lib.Bits.{bit_and, bit_or, bit_xor, and_lt, and_le_r}
-use lib.Count.{count_trailing_zeros, trailing_le, under}
+use lib.Bits.{bit_and, bit_or, bit_xor, and_le_r}
+use lib.Count.{count_trailing_zeros, under}
 use lib.Pow.{shl_exact, shr-shr}
 use lib.Dec.{eqb}
 use borrow.Author.Tests.{eq-eqb, ne_eqb}

@@ -10,7 +10,6 @@ use lib.Seq.{get_or-set_same, get_or-set_other}
 use lib.Dec.{ltb}
 use borrow.Author.Tests.{ltb-true, lt-ltb, le-ltb}
 use Rattle.reply.specs.Tests.{both}
-use Rattle.reply.specs.Tools.{any}
 use Rattle.reply.specs.AllAny.{any_same}
 use Rattle.reply.specs.Counts.{sum_one_less}
 use Rattle.reply.specs.First.{First, first_is, first_only}

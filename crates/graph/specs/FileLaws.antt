@@ -7,7 +7,6 @@ use Rattle.reply.specs.Reply.{reply_number}
 use Rattle.reply.specs.Result.{Result, done, refused, and_then}
 use Rattle.reply.specs.ResultLaws.{Honest, honest_done, honest_then, zero_means, other_means}
 use Rattle.marks.specs.Row.{no_marks}
-use Rattle.network.specs.Lists.{fill_to}
 use Rattle.network.specs.ListLaws.{length_fill}
 use Rattle.network.specs.Net.{Net, within}
 use Rattle.network.specs.Read.{load, read_file}

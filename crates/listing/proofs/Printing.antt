@@ -5,7 +5,7 @@ use mathlib.Core.List.{List, [], ◌∷◌, ◌++◌}
 use native.Mathlib.Numerals.{add-one}
 use native.Mathlib.Omega.{arith}
 use lib.ListN.{length, get_or, take, length-append, set}
-use lib.Seq.{sets, take-suc, take_all}
+use lib.Seq.{take-suc, take_all}
 use Rattle.number.specs.PutLaws.{sets_append}
 use Rattle.listing.specs.Listing.{digit, decimal}
 use Rattle.listing.specs.DecimalLaws.{decimal_last, decimal_more}

@@ -1,7 +1,7 @@
 -- The call's cases: the planner's refusals, the room, and that what `plan` and `graph` return make the text.
 use Rattle.std.specs.Prelude.{ℕ, ◌+◌, ◌*◌, ◌≤◌, ◌<◌, ◌≡◌, get_or, take}
 use Rattle.std.proofs.Math.Path.{refl, ap}
-use Rattle.std.proofs.Common.{sym, subst, ◌∙◌, arith, length-take-le, le-leb}
+use Rattle.std.proofs.Common.{sym, ◌∙◌, arith, length-take-le, le-leb}
 use mathlib.Core.List.{List, ◌++◌}
 use Rattle.std.proofs.Math.ListN.{length}
 use Rattle.std.proofs.Math.Seq.{sets, length-sets}
@@ -12,19 +12,17 @@ use Rattle.reply.specs.Call.{ok_room}
 use Rattle.reply.specs.declared.Answer.{Answer}
 use Rattle.reply.specs.declared.Reply.{Reply}
 use Rattle.network.specs.ListLaws.{fill_at}
-use Rattle.network.specs.Net.{Net}
-use Rattle.network.specs.Valid.{Valid}
 use Rattle.network.specs.Write.{given, told_of, filled_by}
 use Rattle.network.specs.declared.Written.{Written}
 use Rattle.graph.specs.Sequence.{no_job}
-use Rattle.graph.specs.Work.{Work, work_of, load_work, job_of, job_count_of}
+use Rattle.graph.specs.Work.{Work, work_of, load_work, job_count_of}
 use Rattle.graph.specs.Graph.{edge_count, graph_of, graph_file}
 use Rattle.graph.specs.FileLaws.{honest_work}
 use Rattle.graph.specs.Promise.{jobs_are, file_work}
 use Rattle.graph.specs.declared.PrecedenceGraph.{PrecedenceGraph}
-use Rattle.plan.specs.Plan.{processor_at, start_at, planned_by, plan_work, plan_call, plan_filled}
+use Rattle.plan.specs.Plan.{planned_by, plan_work, plan_call, plan_filled}
 use Rattle.plan.specs.Promise.{planner_size, planner_misses, sets_front}
-use Rattle.listing.specs.Listing.{head_line, job_lines, listing_text, listed, list_call, listed_of, list_filled, refusal_line, printed, page_of}
+use Rattle.listing.specs.Listing.{head_line, listing_text, listed, list_call, listed_of, list_filled, refusal_line, printed, page_of}
 use Rattle.listing.specs.Printed.{Printed, text_by}
 use Rattle.listing.specs.TextLaws.{lines_same, listing_most, refusal_most}
 use Rattle.listing.specs.declared.Listed.{Listed}

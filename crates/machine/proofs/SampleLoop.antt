@@ -1,6 +1,5 @@
 -- Samples that are judged: the cases of one, and the loop of `samples::judge`.
-use Rattle.std.proofs.Common.{◌≡◌, ℕ, ◌+◌, ◌*◌, ◌<◌, ◌≤◌, Bool, true, false, not, eqb, ◌≢◌, List, get_or, sym, ◌∙◌, add-one, arith, eq-eqb, ne_eqb}
-use borrow.Author.Tests.{not-true, not-false}
+use Rattle.std.proofs.Common.{◌≡◌, ℕ, ◌+◌, ◌*◌, ◌<◌, ◌≤◌, Bool, true, false, eqb, ◌≢◌, List, get_or, sym, ◌∙◌, add-one, arith, eq-eqb, ne_eqb}
 use Rattle.reply.specs.Result.{Result, done, refused, require}
 use Rattle.reply.specs.ResultLaws.{order_zero, order_more, order_refused}
 use Rattle.reply.specs.declared.Reply.TheVariants.{BadSample}

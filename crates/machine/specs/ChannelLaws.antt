@@ -11,7 +11,7 @@ use Rattle.reply.specs.Tests.{split}
 use Rattle.network.specs.Lists.{table}
 use Rattle.network.specs.ListLaws.{length_table, get_or_table}
 use Rattle.network.specs.ChainsSame.{table_same}
-use Rattle.machine.specs.State.{flag, after_read, after_write}
+use Rattle.machine.specs.State.{after_read, after_write}
 use Rattle.machine.specs.ChannelTold.{Sound, held_by, TakenFrom, PutInto, placed}
 use Rattle.machine.specs.declared.Channel.{Channel}
 

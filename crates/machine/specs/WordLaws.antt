@@ -1,5 +1,5 @@
 -- A channel stored is there when it is loaded, and no other channel is touched.
-use Rattle.std.specs.Prelude.{◌≡◌, ℕ, zero, suc, ◌+◌, ◌*◌, ◌<◌, ◌≤◌, ◌≢◌, ◌⊎◌, List, [], ◌∷◌, ◌++◌, length, slice_index, slice_index_or, slice_set, refl}
+use Rattle.std.specs.Prelude.{◌≡◌, ℕ, zero, suc, ◌+◌, ◌*◌, ◌<◌, ◌≤◌, ◌≢◌, ◌⊎◌, List, [], ◌∷◌, length, slice_index, slice_index_or, slice_set, refl}
 use Rattle.std.proofs.Math.Path.{sym, ap, subst}
 use Rattle.std.proofs.Common.{◌∙◌, add-zero, add-suc, suc-add, add-one, arith, length-set, length-append, get_or-set_same, get_or-set_other, get_or-append-add}
 use Rattle.std.proofs.Math.Logic.{inl, inr}

@@ -20,7 +20,7 @@ use Rattle.roundtrip.specs.Fields.{fill_within, fill_encodes}
 use Rattle.roundtrip.specs.Sizes.{bytes_most}
 use Rattle.roundtrip.specs.Structs.{Arrays, Words}
 use Rattle.roundtrip.specs.Back.{valid_bytes}
-use Rattle.roundtrip.specs.Kept.{Kept, kept, fill_arrays}
+use Rattle.roundtrip.specs.Kept.{Kept, fill_arrays}
 use Rattle.network.specs.Honest.{honest_load, read_done}
 use Rattle.roundtrip.specs.Given.{writer_gives, written_to, writer_done}
 

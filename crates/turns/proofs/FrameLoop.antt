@@ -23,7 +23,7 @@ use Rattle.machine.specs.WholeJob.{program_of}
 use Rattle.plan.specs.Plan.{start_at}
 use Rattle.machine.specs.Words.{SoundWords}
 use Rattle.machine.specs.Acting.{Room}
-use Rattle.promises.specs.Turns.{Run, Between, turn}
+use Rattle.promises.specs.Turns.{Run, Between}
 use Rattle.promises.specs.TurnLaws.{turns_to, to_more, each_counted}
 use Rattle.turns.specs.Order.{next_left, is_left, first_left}
 use Rattle.turns.specs.Lent.{RunTables, idle_at, InFrame, Begins, Standing, Stepped, TurnNeeds, TurnDone, loss_in, spent, FrameBegun, FrameNeeds, FrameTurns}

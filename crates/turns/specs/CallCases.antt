@@ -18,7 +18,7 @@ use Rattle.plan.specs.Plan.{checked_by}
 use Rattle.plan.specs.CheckTold.{Judged}
 use Rattle.plan.specs.CheckLaws.{honest_check}
 use Rattle.plan.specs.CallLaws.{frame_tables}
-use Rattle.promises.specs.Turns.{Between, turns, ok_turns, turn_work, turn_call}
+use Rattle.promises.specs.Turns.{Between, ok_turns, turn_work, turn_call}
 use Rattle.turns.specs.Turned.{turned_of, turn_filled}
 use Rattle.turns.specs.Calls.{refused_with, judged_by, ran_in}
 use Rattle.turns.specs.CallLaws.{honest_judged, plan_refused, sample_refused, turns_judged}

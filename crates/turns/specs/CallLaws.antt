@@ -1,5 +1,5 @@
 -- The frame of a valid network and a plan without faults have all that a turn run needs, and the run on them is the run of the definition.
-use Rattle.std.specs.Prelude.{ℕ, ◌+◌, ◌-◌, ◌*◌, ◌≤◌, ◌<◌, refl, ◌⊎◌, not, ltb, replicate}
+use Rattle.std.specs.Prelude.{ℕ, ◌+◌, ◌-◌, ◌*◌, ◌≤◌, ◌<◌, refl, ◌⊎◌, ltb, replicate}
 use Rattle.std.proofs.Math.Path.{◌≡◌, sym, ap, subst}
 use Rattle.std.proofs.Common.{◌∙◌, inl, inr, arith, length-append, length-drop}
 use mathlib.Core.List.{List, ◌++◌, map}

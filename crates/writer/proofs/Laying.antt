@@ -10,7 +10,6 @@ use lib.ListN.{length, get_or, take, drop, set, length-append}
 use lib.Seq.{sets, sets-eq, take_at, take_all, take-suc, take-append-le, get_or-drop}
 use Rattle.number.specs.Encode.{encode}
 use Rattle.number.specs.Groups.{groups_last, encode_most}
-use Rattle.number.specs.Put.{after}
 use Rattle.number.specs.PutLaws.{sets_append}
 use Rattle.network.specs.Lists.{each_of, table}
 use Rattle.network.specs.ListLaws.{take_lesser, each_append, each_one, each_more, length_table}

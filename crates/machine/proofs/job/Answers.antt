@@ -13,7 +13,7 @@ go_on-under-requires c = let runs = c.requires in
       sound = runs.sound;
       room = record { room = λ ch. omega (arith, runs.room.room ch) };
       how = inl refl;
-  }
+    }
 
 pub returns : goal.returns
 returns c = c.go_on-under.ensures.whole refl

@@ -7,7 +7,7 @@ place_all-requires c = let pre = c.requires in
     record {
       work = _;
       tabled = tabled pre.0 c.deadlines-deadlines.ensures c.releases-releases.ensures c.budgets-budgets.ensures c.low_words-lows.ensures c.high_words-highs.ensures _ pre.1 pre.2;
-  }
+    }
 
 pub returns : goal.returns
 returns c = let pre = c.requires in

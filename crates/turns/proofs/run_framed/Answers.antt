@@ -43,17 +43,17 @@ judge-judged-requires c = let pre = c.requires in
 
 pub run_admitted-requires : goal.run_admitted-requires
 run_admitted-requires c = record {
-      roomy = record {
-        frame = c.requires.0;
-        processors = c.requires.1;
-        few = c.requires.2;
-        plan_there = c.if-plan-jobs.false;
-        input_there = c.if-input-needed.false;
-        output_there = c.if-output-needed.false;
-      };
-      good = good_judged c.requires.0 _ _ _ _ _ c.args.output.now c.if-plan-jobs.false c.if-input-needed.false c.if-output-needed.false c.judge-judged.ensures
-          (sym c.number.ensures ∙ c.if-number-eq0.true);
-  }
+  roomy = record {
+    frame = c.requires.0;
+    processors = c.requires.1;
+    few = c.requires.2;
+    plan_there = c.if-plan-jobs.false;
+    input_there = c.if-input-needed.false;
+    output_there = c.if-output-needed.false;
+  };
+  good = good_judged c.requires.0 _ _ _ _ _ c.args.output.now c.if-plan-jobs.false c.if-input-needed.false c.if-output-needed.false c.judge-judged.ensures
+      (sym c.number.ensures ∙ c.if-number-eq0.true);
+}
 
 pub returns-then-number-eq0 : goal.returns-then-number-eq0
 returns-then-number-eq0 c =

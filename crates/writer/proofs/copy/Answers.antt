@@ -1,4 +1,4 @@
-use Rattle.std.proofs.Common.{rules, ◌-◌}
+use Rattle.std.proofs.Common.{rules}
 use Rattle.writer.proofs.EntryPoint.{copy_start, copy_more, copy_done}
 use Rattle.writer.proofs.copy.Goals as goal
 

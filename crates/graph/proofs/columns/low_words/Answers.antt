@@ -1,4 +1,3 @@
-use Rattle.std.proofs.Common.{◌-◌}
 use Rattle.graph.proofs.ColumnLoop.{start, turn, finish}
 use Rattle.graph.proofs.columns.low_words.Goals as goal
 

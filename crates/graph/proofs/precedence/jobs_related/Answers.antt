@@ -1,4 +1,4 @@
-use Rattle.std.proofs.Common.{rules, ◌-◌}
+use Rattle.std.proofs.Common.{rules}
 use Rattle.graph.proofs.BeforeJobs.{joined_begin, joined_go_on, joined_end}
 use Rattle.graph.proofs.precedence.jobs_related.Goals as goal
 

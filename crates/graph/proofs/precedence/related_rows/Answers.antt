@@ -1,4 +1,4 @@
-use Rattle.std.proofs.Common.{rules, ◌-◌}
+use Rattle.std.proofs.Common.{rules}
 use Rattle.graph.proofs.BeforeJobs.{related_begin, related_go_on, related_end}
 use Rattle.graph.proofs.precedence.related_rows.Goals as goal
 

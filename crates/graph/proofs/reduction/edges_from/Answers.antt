@@ -23,10 +23,10 @@ loop-j-preserved c = let s = c.loop-j.invariant in
 
 pub loop-next-preserved : goal.loop-next-preserved
 loop-next-preserved c = let pre = c.requires in (
-      search rules,
-      reduction_goes_on _ _ pre.0 pre.1 _ _ _ c.loop-next-test.true c.loop-next.invariant.0 c.loop-next.invariant.1 _
-          (gathers_end c.loop-j.invariant c.loop-j-test.false) _ _ c.or-all.ensures c.without-kept.ensures,
-    )
+  search rules,
+  reduction_goes_on _ _ pre.0 pre.1 _ _ _ c.loop-next-test.true c.loop-next.invariant.0 c.loop-next.invariant.1 _
+      (gathers_end c.loop-j.invariant c.loop-j-test.false) _ _ c.or-all.ensures c.without-kept.ensures,
+)
 
 pub returns : goal.returns
 returns c = let pre = c.requires in

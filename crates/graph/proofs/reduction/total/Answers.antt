@@ -1,4 +1,4 @@
-use Rattle.std.proofs.Common.{arith, rules, ◌-◌, ◌≤◌}
+use Rattle.std.proofs.Common.{arith, rules, ◌≤◌}
 use Rattle.marks.specs.Laws.{counted_most}
 use Rattle.graph.proofs.Totals.{total_begins, total_goes_on, total_ends}
 use Rattle.graph.proofs.reduction.total.Goals as goal

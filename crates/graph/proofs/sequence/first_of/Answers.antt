@@ -1,4 +1,4 @@
-use Rattle.std.proofs.Common.{rules, ◌-◌}
+use Rattle.std.proofs.Common.{rules}
 use Rattle.graph.proofs.FreeLoops.{first_begins, first_goes_on, first_ends}
 use Rattle.graph.proofs.sequence.first_of.Goals as goal
 

@@ -1,4 +1,4 @@
-use Rattle.std.proofs.Common.{rules, ◌-◌}
+use Rattle.std.proofs.Common.{rules}
 use Rattle.graph.proofs.FreeLoops.{words_begin, words_go_on, words_end}
 use Rattle.graph.proofs.sequence.first_words.Goals as goal
 

@@ -1,4 +1,4 @@
-use Rattle.std.proofs.Common.{arith, rules, ◌-◌}
+use Rattle.std.proofs.Common.{arith, rules}
 use Rattle.graph.proofs.FreeLoops.{look_begins, look_goes_on, look_found, look_none}
 use Rattle.graph.proofs.sequence.next_free.Goals as goal
 

@@ -1,4 +1,4 @@
-use Rattle.std.proofs.Common.{arith, length, rules, ◌-◌, ◌<◌, ◌≤◌}
+use Rattle.std.proofs.Common.{arith, rules}
 use Rattle.graph.proofs.FreeLoops.{words_relate}
 use Rattle.graph.proofs.ReleasedLoop.{due_begins}
 use Rattle.graph.proofs.SequenceLoops.{taking_begins, taking_less, taking_ends, burst_begins, burst_room, burst_goes_on, burst_ends, times_begin, times_go_on, times_end, good_of, room_of}
@@ -35,16 +35,27 @@ pub loop-left-init : goal.loop-left-init
 loop-left-init c = burst_begins c.loop-p.invariant c.loop-p-test.true
 
 pub offset_bounds-jobs-count : goal.offset_bounds-jobs-count
-offset_bounds-jobs-count c = record { fits = omega (arith, burst_room c.loop-left.invariant c.loop-p-test.true c.loop-left-test.true
-    (room_of _ _ _ _ c.requires _ c.first_words-first.ensures _ c.loop-time-test.true)) }
+offset_bounds-jobs-count c = record {
+  fits = omega (
+    arith,
+    burst_room c.loop-left.invariant c.loop-p-test.true c.loop-left-test.true
+        (room_of _ _ _ _ c.requires _ c.first_words-first.ensures _ c.loop-time-test.true),
+  );
+}
 
 pub bounds-jobs-count : goal.bounds-jobs-count
-bounds-jobs-count c = omega (arith, burst_room c.loop-left.invariant c.loop-p-test.true c.loop-left-test.true
-    (room_of _ _ _ _ c.requires _ c.first_words-first.ensures _ c.loop-time-test.true))
+bounds-jobs-count c = omega (
+  arith,
+  burst_room c.loop-left.invariant c.loop-p-test.true c.loop-left-test.true
+      (room_of _ _ _ _ c.requires _ c.first_words-first.ensures _ c.loop-time-test.true),
+)
 
 pub overflow_add-count : goal.overflow_add-count
-overflow_add-count c = omega (arith, burst_room c.loop-left.invariant c.loop-p-test.true c.loop-left-test.true
-    (room_of _ _ _ _ c.requires _ c.first_words-first.ensures _ c.loop-time-test.true))
+overflow_add-count c = omega (
+  arith,
+  burst_room c.loop-left.invariant c.loop-p-test.true c.loop-left-test.true
+      (room_of _ _ _ _ c.requires _ c.first_words-first.ensures _ c.loop-time-test.true),
+)
 
 pub loop-left-preserved : goal.loop-left-preserved
 loop-left-preserved c = burst_goes_on c.loop-left.invariant c.loop-p-test.true c.loop-left-test.true _

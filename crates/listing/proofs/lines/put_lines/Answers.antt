@@ -1,4 +1,4 @@
-use Rattle.std.proofs.Common.{rules, ◌-◌}
+use Rattle.std.proofs.Common.{rules}
 use Rattle.listing.proofs.Lining.{lines_start, lines_room, lines_more, lines_done}
 use Rattle.listing.proofs.lines.put_lines.Goals as goal
 

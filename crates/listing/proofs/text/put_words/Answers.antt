@@ -1,4 +1,4 @@
-use Rattle.std.proofs.Common.{rules, ◌-◌}
+use Rattle.std.proofs.Common.{rules}
 use Rattle.listing.proofs.Printing.{words_start, words_more, words_done}
 use Rattle.listing.proofs.text.put_words.Goals as goal
 

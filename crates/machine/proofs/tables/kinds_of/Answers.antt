@@ -1,4 +1,3 @@
-use Rattle.std.proofs.Common.{◌-◌}
 use Rattle.machine.proofs.KindsLoop.{start, turn, finish}
 use Rattle.machine.proofs.tables.kinds_of.Goals as goal
 

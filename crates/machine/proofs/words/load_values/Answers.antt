@@ -1,4 +1,3 @@
-use Rattle.std.proofs.Common.{◌-◌}
 use Rattle.machine.proofs.ValuesLoop.{start, more_from_0, whole}
 use Rattle.machine.proofs.words.load_values.Goals as goal
 

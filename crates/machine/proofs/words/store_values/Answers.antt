@@ -1,4 +1,3 @@
-use Rattle.std.proofs.Common.{◌-◌}
 use Rattle.machine.proofs.ValuesLoop.{start, more, all}
 use Rattle.machine.proofs.words.store_values.Goals as goal
 

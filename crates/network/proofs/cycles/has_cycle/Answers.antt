@@ -1,4 +1,4 @@
-use Rattle.std.proofs.Common.{rules, sym, ◌-◌, ◌∙◌}
+use Rattle.std.proofs.Common.{rules, sym, ◌∙◌}
 use Rattle.network.proofs.RowSteps.{back_begins, back_goes_on, back_found, back_none}
 use Rattle.network.proofs.cycles.has_cycle.Goals as goal
 

@@ -1,4 +1,4 @@
-use Rattle.std.proofs.Common.{arith, ◌-◌}
+use Rattle.std.proofs.Common.{arith}
 use Rattle.network.proofs.Multiples.{start, step, found, stop, by_zero}
 use Rattle.network.proofs.frame.first_multiple.Goals as goal
 

@@ -1,4 +1,4 @@
-use Rattle.std.proofs.Common.{rules, ◌-◌}
+use Rattle.std.proofs.Common.{rules}
 use Rattle.network.proofs.FrameLoops.{frame_begins, frame_goes_on, frame_ends}
 use Rattle.network.proofs.frame.frame_length.Goals as goal
 

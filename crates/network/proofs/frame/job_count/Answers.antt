@@ -1,4 +1,4 @@
-use Rattle.std.proofs.Common.{rules, ◌-◌}
+use Rattle.std.proofs.Common.{rules}
 use Rattle.network.proofs.FrameLoops.{jobs_begin, jobs_go_on, jobs_end}
 use Rattle.network.proofs.frame.job_count.Goals as goal
 

@@ -1,4 +1,4 @@
-use Rattle.std.proofs.Common.{rules, ◌-◌}
+use Rattle.std.proofs.Common.{rules}
 use Rattle.plan.proofs.Copying.{copy_start, copy_more, copy_done}
 use Rattle.plan.proofs.calls.copy.Goals as goal
 

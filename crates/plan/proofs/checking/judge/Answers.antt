@@ -1,4 +1,4 @@
-use Rattle.std.proofs.Common.{arith, ⊎_elim, ◌-◌}
+use Rattle.std.proofs.Common.{arith}
 use Rattle.plan.proofs.CheckLoops.{start, answered, finish, lower_end, found_own, end_small, hold, found_overlap, hold_more, found_soon, pass}
 use Rattle.plan.proofs.checking.judge.Goals as goal
 use Rattle.plan.proofs.checking.judge.Goals.{else-jobs-test, then-jobs-test+then-number-ne0, then-jobs-test+else-number-ne0+then-loop-i-test+then-overlaps, then-jobs-test+else-number-ne0+else-loop-i-test+then-soon}
@@ -11,9 +11,9 @@ own_fault-own-requires c = c.requires.fits _ c.jobs-test.true
 
 pub overflow_add-end : goal.overflow_add-end
 overflow_add-end c = omega (
-      arith,
-      end_small c.jobs.invariant c.jobs-test.true c.own_fault-own.ensures c.number.ensures c.if-number-ne0.false c.requires,
-    )
+  arith,
+  end_small c.jobs.invariant c.jobs-test.true c.own_fault-own.ensures c.number.ensures c.if-number-ne0.false c.requires,
+)
 
 pub loop-i-init : goal.loop-i-init
 loop-i-init c = hold c.jobs.invariant c.jobs-test.true c.own_fault-own.ensures c.number.ensures c.if-number-ne0.false

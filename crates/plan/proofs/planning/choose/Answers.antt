@@ -1,4 +1,4 @@
-use Rattle.std.proofs.Common.{arith, sym, ◌-◌, ◌∙◌}
+use Rattle.std.proofs.Common.{arith, sym, ◌∙◌}
 use Rattle.plan.proofs.PlanLoops.{none_yet, passed_by, kept, taken, best_of}
 use Rattle.plan.proofs.planning.choose.Goals as goal
 use Rattle.plan.proofs.planning.choose.Goals.{then-can_place+then-deadline-least, then-can_place+else-deadline-least, else-can_place}

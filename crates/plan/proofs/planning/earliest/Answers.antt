@@ -1,4 +1,4 @@
-use Rattle.std.proofs.Common.{arith, ◌-◌}
+use Rattle.std.proofs.Common.{arith}
 use Rattle.plan.proofs.PlanLoops.{first_one, no_earlier, earlier_one, earliest_of}
 use Rattle.plan.proofs.planning.earliest.Goals as goal
 use Rattle.plan.proofs.planning.earliest.Goals.{then-start-least, else-start-least}

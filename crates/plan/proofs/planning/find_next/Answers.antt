@@ -40,9 +40,9 @@ bounds-last-processor c = omega (arith, c.earliest-processor.ensures.1, c.requir
 
 pub returns : goal.returns
 returns c = record {
-      job_is = omega (arith, c.choose-choice.ensures.0, c.requires.some);
-      ready = _;
-      ready_is = c.ready_at-ready.ensures;
-      processor_is = c.earliest-processor.ensures.0;
-      start_is = c.later-start.ensures;
-  }
+  job_is = omega (arith, c.choose-choice.ensures.0, c.requires.some);
+  ready = _;
+  ready_is = c.ready_at-ready.ensures;
+  processor_is = c.earliest-processor.ensures.0;
+  start_is = c.later-start.ensures;
+}

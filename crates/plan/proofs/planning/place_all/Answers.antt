@@ -1,4 +1,3 @@
-use Rattle.std.proofs.Common.{◌-◌}
 use Rattle.plan.proofs.PlanLoops.{set_out, one_placed, one_missed, placed_all}
 use Rattle.plan.proofs.planning.place_all.Goals as goal
 

@@ -32,7 +32,7 @@ stand-requires c = let pre = c.requires in
 
 pub returns : goal.returns
 returns c = record {
-      is = λ w k h R.
-          rw (c.with.ensures, c.stand.ensures.ends_after, c.stand.ensures.last_after, c.stand.ensures.words_after)
-          (placed_so R h c.find_next-next.ensures c.if-deadlines-job.false);
-  }
+  is = λ w k h R.
+      rw (c.with.ensures, c.stand.ensures.ends_after, c.stand.ensures.last_after, c.stand.ensures.words_after)
+      (placed_so R h c.find_next-next.ensures c.if-deadlines-job.false);
+}

@@ -1,4 +1,4 @@
-use Rattle.std.proofs.Common.{arith, sym, ◌-◌, ◌∙◌}
+use Rattle.std.proofs.Common.{arith, sym, ◌∙◌}
 use Rattle.plan.proofs.PlanLoops.{at_release, not_marked, is_marked, ready_of}
 use Rattle.plan.proofs.planning.ready_at.Goals as goal
 use Rattle.plan.proofs.planning.ready_at.Goals.{then-has, else-has}

@@ -1,4 +1,4 @@
-use Rattle.std.proofs.Common.{ap, arith, rules, sym, ◌-◌, ◌∙◌}
+use Rattle.std.proofs.Common.{ap, arith, rules, sym, ◌∙◌}
 use Rattle.reader.specs.Told.{channels_of}
 use Rattle.reader.proofs.Loop.{start, step, stop, finish}
 use Rattle.reader.proofs.Records.{channel_got, channel_not}

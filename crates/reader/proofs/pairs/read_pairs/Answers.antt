@@ -1,4 +1,4 @@
-use Rattle.std.proofs.Common.{ap, arith, rules, sym, ◌-◌, ◌∙◌}
+use Rattle.std.proofs.Common.{ap, arith, rules, sym, ◌∙◌}
 use Rattle.reader.specs.Told.{pairs_of}
 use Rattle.reader.proofs.Loop.{finish}
 use Rattle.reader.proofs.PairRows.{begin, place, again, twice, cut}

@@ -1,4 +1,4 @@
-use Rattle.std.proofs.Common.{ap, arith, rules, sym, ◌-◌, ◌∙◌}
+use Rattle.std.proofs.Common.{ap, arith, rules, sym, ◌∙◌}
 use Rattle.reader.specs.Told.{processes_of}
 use Rattle.reader.proofs.Loop.{start, step, stop, finish}
 use Rattle.reader.proofs.Records.{process_any, process_got, process_not}

@@ -1,4 +1,4 @@
-use Rattle.std.proofs.Common.{arith, length, refl, rules, sym, ◌-◌, ◌<◌, ◌∙◌, ◌≡◌}
+use Rattle.std.proofs.Common.{arith, length, refl, rules, sym, ◌<◌, ◌∙◌, ◌≡◌}
 use Rattle.network.specs.NamedLaws.{named_at, place_fits}
 use Rattle.reader.proofs.ActionLoop.{actions_start, actions_step, actions_bad, actions_not, actions_end, four_got, four_not}
 use Rattle.reader.proofs.programs.read_actions.Goals as goal
@@ -16,11 +16,11 @@ bounds-channels-place c = place_fits 16 _ _ _ _ (omega arith) c.requires.0 c.is_
 
 pub loop-k-preserved : goal.loop-k-preserved
 loop-k-preserved c = (
-      search rules,
-      c.loop-k.invariant.1,
-      actions_step _ _ _ _ _ _ c.loop-k.invariant.2 _ _ _ _ (four_got _ (sym c.in-Got.is ∙ c.read_four.ensures))
-          (c.good_action.ensures.same _ (named_at _ _ _ _ _ _ c.loop-k.invariant.1 c.is_below-known.ensures c.place_of-place.ensures refl)) c.if-good_action.true c.store_four.ensures,
-    )
+  search rules,
+  c.loop-k.invariant.1,
+  actions_step _ _ _ _ _ _ c.loop-k.invariant.2 _ _ _ _ (four_got _ (sym c.in-Got.is ∙ c.read_four.ensures))
+      (c.good_action.ensures.same _ (named_at _ _ _ _ _ _ c.loop-k.invariant.1 c.is_below-known.ensures c.place_of-place.ensures refl)) c.if-good_action.true c.store_four.ensures,
+)
 
 pub returns-else-good_action : goal.returns-else-good_action
 returns-else-good_action c = actions_bad _ _ _ _ _ _ c.loop-k.invariant.2 _ _ _ _ c.loop-k-test.true (four_got _ (sym c.in-Got.is ∙ c.read_four.ensures))

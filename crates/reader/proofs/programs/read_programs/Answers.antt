@@ -1,4 +1,4 @@
-use Rattle.std.proofs.Common.{rules, ◌-◌}
+use Rattle.std.proofs.Common.{rules}
 use Rattle.reader.proofs.ProgramLoop.{programs_start, programs_step, programs_stop, programs_end}
 use Rattle.reader.proofs.programs.read_programs.Goals as goal
 

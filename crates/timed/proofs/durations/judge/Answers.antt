@@ -1,4 +1,4 @@
-use Rattle.std.proofs.Common.{ap, rules, sym, ◌-◌}
+use Rattle.std.proofs.Common.{ap, rules, sym}
 use Rattle.reply.specs.Result.{answer_of}
 use Rattle.timed.proofs.TimedLoops.{none_judged, one_within, one_above, all_judged}
 use Rattle.timed.proofs.durations.judge.Goals as goal

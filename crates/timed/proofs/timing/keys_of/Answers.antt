@@ -1,4 +1,4 @@
-use Rattle.std.proofs.Common.{arith, rules, ◌-◌}
+use Rattle.std.proofs.Common.{arith, rules}
 use Rattle.timed.proofs.TimedLoops.{no_keys, one_key, all_keys}
 use Rattle.timed.proofs.timing.keys_of.Goals as goal
 

@@ -1,4 +1,3 @@
-use Rattle.std.proofs.Common.{◌-◌}
 use Rattle.timed.proofs.TimedLoops.{first_key, no_less, one_less, least_all}
 use Rattle.timed.proofs.timing.least_of.Goals as goal
 use Rattle.timed.proofs.timing.least_of.Goals.{then-keys-j, else-keys-j}

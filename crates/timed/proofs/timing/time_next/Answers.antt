@@ -33,7 +33,7 @@ run_job-requires c = let pre = c.requires in
 
 pub returns : goal.returns
 returns c = record {
-      is = λ w m n k h R.
-          rw (c.run_job.ensures.ends_after, c.run_job.ensures.last_after, c.run_job.ensures.words_after)
-          (chosen_reached R h c.least_of-key.ensures c.ready_at-ready.ensures c.later-start.ensures);
-  }
+  is = λ w m n k h R.
+      rw (c.run_job.ensures.ends_after, c.run_job.ensures.last_after, c.run_job.ensures.words_after)
+      (chosen_reached R h c.least_of-key.ensures c.ready_at-ready.ensures c.later-start.ensures);
+}

@@ -1,4 +1,4 @@
-use Rattle.std.proofs.Common.{arith, rules, ◌-◌}
+use Rattle.std.proofs.Common.{arith, rules}
 use Rattle.turns.proofs.BlankLoop.{start, turn, finish}
 use Rattle.turns.proofs.blank.clear.Goals as goal
 

@@ -1,4 +1,4 @@
-use Rattle.std.proofs.Common.{arith, length, rules, ◌-◌, ◌<◌, ◌^◌}
+use Rattle.std.proofs.Common.{arith, length, rules, ◌<◌, ◌^◌}
 use Rattle.turns.proofs.FrameLoop.{start, turn_needs, worked_most, below_fits, again, ends, stops}
 use Rattle.turns.proofs.frames.frame.Goals as goal
 

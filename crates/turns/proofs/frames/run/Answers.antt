@@ -1,4 +1,4 @@
-use Rattle.std.proofs.Common.{arith, length, rules, ◌-◌, ◌<◌, ◌^◌}
+use Rattle.std.proofs.Common.{arith, length, rules, ◌<◌, ◌^◌}
 use borrow.Author.Tests.{not-true, not-false}
 use Rattle.turns.proofs.FrameLoop.{below_fits}
 use Rattle.turns.proofs.FramesLoop.{part_within, needed_most, width_is, start, in_input, in_output, frame_needs, working_most, put_size, next, stops, finish}
@@ -13,34 +13,34 @@ loop-f-init c = start c.requires
 -- the part lies within the run's words, which are few
 pub overflow_mul-from : goal.overflow_mul-from
 overflow_mul-from c = omega (
-      arith,
-      part_within c.loop-f.f c.args.jobs c.args.frames c.loop-f-test.true,
-      needed_most c.args.jobs c.args.frames c.requires.ready.few c.requires.few,
-    )
+  arith,
+  part_within c.loop-f.f c.args.jobs c.args.frames c.loop-f-test.true,
+  needed_most c.args.jobs c.args.frames c.requires.ready.few c.requires.few,
+)
 
 pub overflow_add-to : goal.overflow_add-to
 overflow_add-to c = omega (
-      arith,
-      part_within c.loop-f.f c.args.jobs c.args.frames c.loop-f-test.true,
-      needed_most c.args.jobs c.args.frames c.requires.ready.few c.requires.few,
-    )
+  arith,
+  part_within c.loop-f.f c.args.jobs c.args.frames c.loop-f-test.true,
+  needed_most c.args.jobs c.args.frames c.requires.ready.few c.requires.few,
+)
 
 pub offset_bounds-input-from : goal.offset_bounds-input-from
 offset_bounds-input-from c = omega (
-      arith,
-      part_within c.loop-f.f c.args.jobs c.args.frames c.loop-f-test.true,
-      needed_most c.args.jobs c.args.frames c.requires.ready.few c.requires.few,
-    )
+  arith,
+  part_within c.loop-f.f c.args.jobs c.args.frames c.loop-f-test.true,
+  needed_most c.args.jobs c.args.frames c.requires.ready.few c.requires.few,
+)
 
 pub slice_bounds-frame-end : goal.slice_bounds-frame-end
 slice_bounds-frame-end c = omega (arith, in_input c.requires c.loop-f.invariant c.loop-f-test.true)
 
 pub offset_bounds-output-from : goal.offset_bounds-output-from
 offset_bounds-output-from c = omega (
-      arith,
-      part_within c.loop-f.f c.args.jobs c.args.frames c.loop-f-test.true,
-      needed_most c.args.jobs c.args.frames c.requires.ready.few c.requires.few,
-    )
+  arith,
+  part_within c.loop-f.f c.args.jobs c.args.frames c.loop-f-test.true,
+  needed_most c.args.jobs c.args.frames c.requires.ready.few c.requires.few,
+)
 
 pub slice_bounds-frame-end-in-loop-f : goal.slice_bounds-frame-end-in-loop-f
 slice_bounds-frame-end-in-loop-f c = omega (arith, in_output c.requires c.loop-f.invariant c.loop-f-test.true)

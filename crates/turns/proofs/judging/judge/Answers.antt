@@ -1,4 +1,4 @@
-use Rattle.std.proofs.Common.{ap, sym, ◌-◌}
+use Rattle.std.proofs.Common.{ap, sym}
 use Rattle.reply.specs.Result.{answer_of}
 use Rattle.turns.proofs.TurnJudge.{start, go_on, stop, finish}
 use Rattle.turns.proofs.judging.judge.Goals as goal

@@ -1,4 +1,4 @@
-use Rattle.std.proofs.Common.{ap, ℕ, ◌+◌, ◌-◌, ◌∙◌}
+use Rattle.std.proofs.Common.{ap, ℕ, ◌+◌, ◌∙◌}
 use Rattle.plan.specs.Plan.{processor_at}
 use Rattle.turns.specs.Order.{next_from}
 use Rattle.turns.proofs.OrderLoops.{after_start, after_turn, after_finish}

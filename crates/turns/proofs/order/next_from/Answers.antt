@@ -1,4 +1,4 @@
-use Rattle.std.proofs.Common.{arith, ◌-◌}
+use Rattle.std.proofs.Common.{arith}
 use Rattle.turns.proofs.OrderLoops.{start, few, turn, finish}
 use Rattle.turns.proofs.order.next_from.Goals as goal
 

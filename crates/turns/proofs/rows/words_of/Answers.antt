@@ -1,4 +1,3 @@
-use Rattle.std.proofs.Common.{◌-◌}
 use Rattle.turns.proofs.RowLoop.{start, turn, finish}
 use Rattle.turns.proofs.rows.words_of.Goals as goal
 

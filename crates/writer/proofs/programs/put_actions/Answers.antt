@@ -1,4 +1,4 @@
-use Rattle.std.proofs.Common.{arith, length, refl, rules, ◌-◌, ◌<◌, ◌≡◌}
+use Rattle.std.proofs.Common.{arith, length, refl, rules, ◌<◌, ◌≡◌}
 use Rattle.network.specs.Lists.{table}
 use Rattle.network.specs.Net.{four_at}
 use Rattle.network.specs.NamedLaws.{named_at, place_fits}
@@ -23,17 +23,17 @@ returns-then-not-good_action c = nowhere
 
 pub put_action-at-requires-clause-short_four : goal.put_action-at-requires-clause-short_four
 put_action-at-requires-clause-short_four c = action_short _ _ _ _ _ (few_channels c.args.channels c.args.channel_count c.loop-k.invariant.2) c.four_at-four.ensures.b_bound
-          (c.good_action.ensures.same _ (named_at _ _ _ _ _ _ c.loop-k.invariant.1 c.is_below-known.ensures c.place_of-place.ensures refl)) c.if-not-good_action.false
+    (c.good_action.ensures.same _ (named_at _ _ _ _ _ _ c.loop-k.invariant.1 c.is_below-known.ensures c.place_of-place.ensures refl)) c.if-not-good_action.false
 
 pub loop-k-preserved : goal.loop-k-preserved
 loop-k-preserved c = (
-      search rules,
-      c.loop-k.invariant.1,
-      c.loop-k.invariant.2,
-      actions_more _ _ _ _ _ (few_channels c.args.channels c.args.channel_count c.loop-k.invariant.2) c.four_at-four.ensures.b_bound
-          (c.good_action.ensures.same _ (named_at _ _ _ _ _ _ c.loop-k.invariant.1 c.is_below-known.ensures c.place_of-place.ensures refl)) c.if-not-good_action.false
-          c.args.actions.now c.four_at-four.ensures.value c.loop-k.invariant.3 c.put_action-at.ensures (search rules),
-    )
+  search rules,
+  c.loop-k.invariant.1,
+  c.loop-k.invariant.2,
+  actions_more _ _ _ _ _ (few_channels c.args.channels c.args.channel_count c.loop-k.invariant.2) c.four_at-four.ensures.b_bound
+      (c.good_action.ensures.same _ (named_at _ _ _ _ _ _ c.loop-k.invariant.1 c.is_below-known.ensures c.place_of-place.ensures refl)) c.if-not-good_action.false
+      c.args.actions.now c.four_at-four.ensures.value c.loop-k.invariant.3 c.put_action-at.ensures (search rules),
+)
 
 pub returns : goal.returns
 returns c = record { sure = λ d. put_all _ _ _ _ _ (λ j. table j (λ k. four_at c.args.actions.now c.args.p k)) c.loop-k.invariant.3 c.loop-k.invariant.0 c.loop-k-test.false (search rules) }

@@ -1,4 +1,4 @@
-use Rattle.std.proofs.Common.{arith, length, rules, ◌-◌, ◌≡◌}
+use Rattle.std.proofs.Common.{arith, length, rules, ◌≡◌}
 use Rattle.writer.proofs.Judging.{nowhere}
 use Rattle.writer.proofs.Actions.{programs_start, programs_more, programs_all}
 use Rattle.writer.proofs.programs.put_programs.Goals as goal

@@ -4,13 +4,13 @@ use Rattle.writer.proofs.records.good_process.Goals as goal
 
 pub returns-then-is_from-3 : goal.returns-then-is_from-3
 returns-then-is_from-3 c = record {
-      sure = λ e. record {
-        period = c.is_from.ensures.sure c.if-is_from.true;
-        burst = c.is_from-then-is_from.ensures.sure c.if-is_from-2.true;
-        deadline = c.is_from-then-is_from-2.ensures.sure c.if-is_from-3.true;
-        budget = c.is_from-then-is_from-3.ensures.sure e;
-      };
-  }
+  sure = λ e. record {
+    period = c.is_from.ensures.sure c.if-is_from.true;
+    burst = c.is_from-then-is_from.ensures.sure c.if-is_from-2.true;
+    deadline = c.is_from-then-is_from-2.ensures.sure c.if-is_from-3.true;
+    budget = c.is_from-then-is_from-3.ensures.sure e;
+  };
+}
 
 pub returns-else-is_from-3 : goal.returns-else-is_from-3
 returns-else-is_from-3 c = no

@@ -1,4 +1,4 @@
-use Rattle.std.proofs.Common.{arith, length, rules, sym, take, ◌-◌, ◌∙◌, ◌≡◌}
+use Rattle.std.proofs.Common.{arith, length, rules, sym, take, ◌∙◌, ◌≡◌}
 use Rattle.network.specs.Net.{no_channel}
 use Rattle.writer.specs.Good.{ChannelBy}
 use Rattle.writer.proofs.Judging.{nowhere, take_more, put_none, put_more, put_all}

@@ -14,12 +14,11 @@ pub put_number-at-requires-2 : goal.put_number-at-requires-2
 put_number-at-requires-2 c = omega (arith, (c.put_pairs-put.ensures.sure c.if-next-eq0.false).put.laid.near, c.put_number-at.ensures.laid.near, c.requires.0)
 
 pub put_channels-requires : goal.put_channels-requires
-put_channels-requires c = let few = c.requires.1 in
-    (
-      omega (arith, c.put_number-at-2.ensures.laid.near, (c.put_pairs-put.ensures.sure c.if-next-eq0.false).put.laid.near, c.put_number-at.ensures.laid.near, c.requires.0),
-      few.processes.1,
-      few.channels,
-    )
+put_channels-requires c = let few = c.requires.1 in (
+  omega (arith, c.put_number-at-2.ensures.laid.near, (c.put_pairs-put.ensures.sure c.if-next-eq0.false).put.laid.near, c.put_number-at.ensures.laid.near, c.requires.0),
+  few.processes.1,
+  few.channels,
+)
 
 pub returns : goal.returns
 returns c = let put = c.put_pairs-put.ensures.sure c.if-next-eq0.false in
@@ -30,4 +29,4 @@ returns c = let put = c.put_pairs-put.ensures.sure c.if-next-eq0.false in
             good = ends_good _ _ _ _ _ c.requires.1.processes.1 _ put.marks c.has_cycle.ensures c.if-has_cycle.false put.put.good channels.good;
             laid = ends_laid _ _ _ _ c.put_number-at.ensures.laid put.put.laid c.put_number-at-2.ensures.laid channels.laid;
           };
-  }
+    }

@@ -1,4 +1,4 @@
-use Rattle.std.proofs.Common.{arith, length, refl, rules, ◌-◌, ◌≡◌}
+use Rattle.std.proofs.Common.{arith, length, refl, rules, ◌≡◌}
 use Rattle.writer.proofs.Judging.{nowhere}
 use Rattle.writer.proofs.Ends.{pairs_none, in_rows, pairs_more, pairs_all}
 use Rattle.writer.proofs.records.put_pairs.Goals as goal
@@ -21,12 +21,12 @@ bounds-rows-higher-in-loop-i c = (in_rows _ _ _ _ c.loop-i.invariant.3 c.loop-i.
 
 pub loop-i-preserved : goal.loop-i-preserved
 loop-i-preserved c = (
-      search rules,
-      c.loop-i.invariant.1,
-      c.loop-i.invariant.2,
-      pairs_more _ _ _ _ c.loop-i.invariant.3 c.loop-i.invariant.2 _ refl
-          c.are_apart.ensures c.if-not-are_apart.false c.has.ensures c.if-has.false c.with.ensures (omega (arith, c.loop-i.invariant.1, c.loop-i-test.true)) c.put_two-at.ensures (search rules),
-    )
+  search rules,
+  c.loop-i.invariant.1,
+  c.loop-i.invariant.2,
+  pairs_more _ _ _ _ c.loop-i.invariant.3 c.loop-i.invariant.2 _ refl
+      c.are_apart.ensures c.if-not-are_apart.false c.has.ensures c.if-has.false c.with.ensures (omega (arith, c.loop-i.invariant.1, c.loop-i-test.true)) c.put_two-at.ensures (search rules),
+)
 
 pub returns : goal.returns
 returns c = record { sure = λ d. pairs_all _ _ _ _ c.loop-i.invariant.3 c.loop-i.invariant.0 c.loop-i-test.false (search rules) }

@@ -1,4 +1,4 @@
-use Rattle.std.proofs.Common.{rules, take, ◌-◌}
+use Rattle.std.proofs.Common.{rules, take}
 use Rattle.network.specs.Frame.{no_process}
 use Rattle.writer.proofs.Judging.{nowhere, take_more, put_none, put_more, put_all}
 use Rattle.writer.proofs.records.put_processes.Goals as goal

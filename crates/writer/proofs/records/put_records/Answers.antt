@@ -37,4 +37,4 @@ returns c = let few = c.are_few.ensures.sure c.if-not-are_few.false in
             ends = ends.good;
             laid = join c.put_two-from.ensures (join put.laid ends.laid);
           };
-  }
+    }

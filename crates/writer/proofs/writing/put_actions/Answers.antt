@@ -1,4 +1,4 @@
-use Rattle.std.proofs.Common.{ap, rules, ◌-◌}
+use Rattle.std.proofs.Common.{ap, rules}
 use Rattle.network.specs.Lists.{each_of}
 use Rattle.network.specs.Net.{four_fields, four_at, program_at}
 use Rattle.writer.proofs.Laying.{none, join, told, table_lesser, each_none_table, each_table}

@@ -1,4 +1,4 @@
-use Rattle.std.proofs.Common.{ap, rules, ◌-◌}
+use Rattle.std.proofs.Common.{ap, rules}
 use Rattle.network.specs.Lists.{each_of}
 use Rattle.network.specs.Net.{channel_fields}
 use Rattle.network.specs.ListLaws.{take_lesser}

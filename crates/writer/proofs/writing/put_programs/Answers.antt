@@ -1,4 +1,4 @@
-use Rattle.std.proofs.Common.{ap, get_or, rules, ◌-◌}
+use Rattle.std.proofs.Common.{ap, get_or, rules}
 use Rattle.network.specs.Net.{program_at}
 use Rattle.network.specs.Write.{program_fields}
 use Rattle.writer.proofs.Laying.{none, join, told, table_lesser, programs_none, programs_table}

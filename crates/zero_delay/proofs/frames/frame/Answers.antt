@@ -1,4 +1,4 @@
-use Rattle.std.proofs.Common.{arith, rules, ◌-◌}
+use Rattle.std.proofs.Common.{arith, rules}
 use Rattle.zero_delay.proofs.FrameLoop.{process_small, count_small, start, runs, turn, finish}
 use Rattle.zero_delay.proofs.frames.frame.Goals as goal
 
