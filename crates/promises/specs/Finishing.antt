@@ -15,7 +15,7 @@ use Rattle.plan.specs.Plan.{processor_at, start_at}
 use Rattle.promises.specs.Turns.{Between, Run, is_finished, stand_of, next_frame, waits, turn}
 use Rattle.promises.specs.TurnLaws.{waits_last}
 use Rattle.determinism.specs.Setup
-use Rattle.determinism.specs.Turns.{Ok}
+use Rattle.determinism.proofs.Turns.{Ok}
 use Rattle.promises.specs.SampleWords.{get_or_same}
 use Rattle.promises.specs.Kept.{setup}
 use Rattle.promises.specs.Running.{Fit, Any, all_finished, lawful, moved}
