@@ -8,7 +8,8 @@ use Rattle.promises.specs.Turns.{Between, turn_call}
 use Rattle.turns.specs.Turned.{turned_of, turn_filled}
 use Rattle.turns.specs.Promise.{honest_call}
 use Rattle.turns.specs.declared.TurnRan.{TurnRan}
-use Rattle.promises.specs.Promise.{Promised, promised}
+use Rattle.promises.specs.Promise.{Promised}
+use Rattle.promises.proofs.Promise.{promised}
 use Rattle.refusals.specs.Refusals.{Returns, Leaves, jobs_in}
 use Rattle.refusals.specs.RefusalLaws.{returns, leaves, Fills}
 use Rattle.refusals.specs.Steps.{jobs_of_lem}
