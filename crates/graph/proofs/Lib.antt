@@ -11,3 +11,5 @@ mod Stores
 mod TakeOne
 mod Totals
 mod ColumnLoop
+pub mod WorkLaws
+pub mod Promise

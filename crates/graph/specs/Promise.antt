@@ -1,7 +1,7 @@
 -- What is promised of every valid network: its frame is the least common multiple of the periods; every job of the frame stands in the sequence once,
 -- by release and with what comes before another first; and which job precedes which.
 use Rattle.std.specs.Prelude.{ℕ, ◌+◌, ◌%◌, ◌≤◌, ◌<◌, ◌≡◌, refl, true, cond, ◌&&◌, List, eqb, length, get_or}
-use Rattle.std.proofs.Common.{sym, subst, inl, inr, arith, eqb-true}
+use Rattle.std.proofs.Common.{sym, subst, arith, eqb-true}
 use Rattle.std.proofs.Math.Decide.{dec_lt, ℕ_discrete}
 use Rattle.reply.specs.Tools.{count}
 use Rattle.reply.specs.Tests.{clash}
@@ -15,11 +15,11 @@ use Rattle.network.specs.declared.Process.{Process}
 use Rattle.roundtrip.specs.Promise.{read_valid}
 use Rattle.graph.specs.Sequence.{released_at, released_now, is_free, take_jobs, pending_count, sequence_to}
 use Rattle.graph.specs.Work.{Work, work_of, job_count_of, process_of, release, deadline, cost, precedes, load_work}
-use Rattle.graph.specs.OrderLaws.{order_of, Before, Paired, Joins, order_ranked, order_complete, order_apart, pair_related, channel_related}
+use Rattle.graph.specs.OrderLaws.{order_of, Before, Paired, Joins, order_ranked, order_complete, order_apart}
 use Rattle.graph.specs.TakeLaws.{some_free, take_length}
 use Rattle.graph.specs.Releases.{next_multiple}
 use Rattle.graph.specs.FrameJobs.{Frame, frame_is, all_jobs, jobs_some, jobs_most, jobs_of_each, jobs_at, sequence_most, released_fits}
-use Rattle.graph.specs.WorkLaws.{Forward, Precedes, job_is, jobs_ordered, precedes_sound, precedes_complete, goes_forward}
+use Rattle.graph.specs.WorkLaws.{Forward, Precedes, job_is, jobs_ordered}
 
 -- the process of job j
 abbrev pub process_for : Net → ℕ → Process
@@ -173,17 +173,6 @@ module _ (net : Net) (ok : Valid net) where
     sorted = the_sorted;
     by_release = the_by_release;
     together = the_together;
-  }
-
-  -- and so is what precedes what
-  pub precedence_is : Precedence net
-  precedence_is = record {
-    forward = goes_forward net ok;
-    sound = precedes_sound net ok;
-    complete = precedes_complete net ok;
-    one_process_lem = λ i j l h e. precedes_complete net ok i j (record { lower = l; below = h; tied = inl e });
-    one_pair_lem = λ i j l h p. precedes_complete net ok i j (record { lower = l; below = h; tied = inr (pair_related net ok _ _ p) });
-    one_channel_lem = λ i j k l h c p. precedes_complete net ok i j (record { lower = l; below = h; tied = inr (channel_related net ok k _ _ c p) });
   }
 
 -- the work of an accepted file is that of a valid network

@@ -21,7 +21,7 @@ use Rattle.graph.specs.FileLaws.{honest_work}
 use Rattle.graph.specs.Promise.{jobs_are, file_work}
 use Rattle.graph.specs.declared.PrecedenceGraph.{PrecedenceGraph}
 use Rattle.plan.specs.Plan.{planned_by, plan_work, plan_call, plan_filled}
-use Rattle.plan.specs.Promise.{planner_size, planner_misses, sets_front}
+use Rattle.plan.proofs.Promise.{planner_size, planner_misses, sets_front}
 use Rattle.listing.specs.Listing.{head_line, listing_text, listed, list_call, listed_of, list_filled, refusal_line, printed, page_of}
 use Rattle.listing.specs.Printed.{Printed, text_by}
 use Rattle.listing.specs.TextLaws.{lines_same, listing_most, refusal_most}

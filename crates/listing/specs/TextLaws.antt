@@ -16,7 +16,7 @@ use Rattle.graph.specs.Promise.{jobs_are}
 use Rattle.graph.specs.declared.Job.{Job}
 use Rattle.plan.specs.Plan.{processor_at, start_at, planned_by}
 use Rattle.plan.specs.PlannerLaws.{planned_feasible}
-use Rattle.plan.specs.Promise.{plannable, planner_in_frame}
+use Rattle.plan.proofs.Promise.{plannable, planner_in_frame}
 use Rattle.listing.specs.Listing.{decimal, space, newline, line, numbers_of, job_numbers, head_line, job_line, job_lines, listing_text, refusal_line}
 use Rattle.listing.specs.DecimalLaws.{decimal_most, decimal_longest}
 

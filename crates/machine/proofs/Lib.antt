@@ -3,3 +3,4 @@ mod SampleLoop
 mod ValuesLoop
 mod KindsLoop
 mod HeldLoops
+pub mod Locality

@@ -20,5 +20,4 @@ pub mod GoodActions
 pub mod TableLaws
 pub mod Places
 pub mod Elements
-pub mod Locality
 pub mod Opens

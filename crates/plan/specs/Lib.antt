@@ -7,9 +7,7 @@ pub mod CheckLaws
 pub mod StartLaws
 pub mod PlaceLaws
 pub mod PlannerLaws
-pub mod Promise
 pub mod CheckTold
 pub mod PlanTold
 pub mod PlanSteps
 pub mod CheckTables
-pub mod CallLaws

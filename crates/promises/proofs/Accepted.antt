@@ -16,7 +16,7 @@ use Rattle.graph.specs.Promise.{jobs_are, file_work}
 use Rattle.machine.specs.Samples.{ok_samples}
 use Rattle.machine.specs.Ledger.{valid_short}
 use Rattle.plan.specs.Plan.{checked_by}
-use Rattle.plan.specs.Promise.{check_exact}
+use Rattle.plan.proofs.Promise.{check_exact}
 use Rattle.zero_delay.specs.ZeroDelay.{ran_jobs, run_work, zero_delay}
 use Rattle.promises.specs.Turns.{Between, turns, at_start, ok_turns, turn_work, turn_call}
 use Rattle.promises.specs.Jobs.{work_ordered}

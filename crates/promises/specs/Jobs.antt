@@ -13,12 +13,13 @@ use Rattle.network.specs.Net.{Net}
 use Rattle.network.specs.Valid.{Valid}
 use Rattle.graph.specs.Work.{Work, work_of, job_count_of, process_of, precedes}
 use Rattle.graph.specs.OrderLaws.{Related, channel_related}
-use Rattle.graph.specs.WorkLaws.{Forward, goes_forward, precedes_complete}
+use Rattle.graph.specs.WorkLaws.{Forward}
+use Rattle.graph.proofs.WorkLaws.{goes_forward, precedes_complete}
 use Rattle.machine.specs.State.{State, start_state}
 use Rattle.machine.specs.WholeJob.{Did, program_of, started, act_state, act_under, at_end, go_on, whole_job}
 use Rattle.machine.specs.Samples.{sample_at, sample_words}
 use Rattle.machine.specs.Places.{Place, variable, channel, At, view, touches, Local}
-use Rattle.machine.specs.Locality.{Ends, meets, valid_local}
+use Rattle.machine.proofs.Locality.{Ends, meets, valid_local}
 use Rattle.machine.specs.declared.Sample.{Sample}
 use Rattle.machine.specs.declared.Under.{Under}
 use Rattle.zero_delay.specs.ZeroDelay.{jobs_done, process_in, ran_jobs}

@@ -22,11 +22,11 @@ use Rattle.machine.specs.SampleLaws.{honest_samples}
 use Rattle.zero_delay.specs.ZeroDelay.{Sofar, process_in, ran_jobs, run_work, zero_delay}
 use Rattle.zero_delay.specs.RunLaws.{jobs_length}
 use Rattle.plan.specs.Plan.{Planning, start_on, chosen, earliest, place_on, place_job, placing, planned_by, plan_work, plan_call, check_work, check_call}
-use Rattle.plan.specs.CheckLaws.{honest_check}
-use Rattle.plan.specs.Promise.{planner_size}
+use Rattle.plan.proofs.CheckLaws.{honest_check}
+use Rattle.plan.proofs.Promise.{planner_size}
 use Rattle.timed.specs.Timed.{timed_call}
-use Rattle.timed.specs.TimedLaws.{computed}
-use Rattle.timed.specs.Promise.{ordered_by, DoneBy, call_done}
+use Rattle.timed.proofs.TimedLaws.{computed}
+use Rattle.timed.proofs.Promise.{ordered_by, DoneBy, call_done}
 use Rattle.listing.specs.Listing.{listing_text, listed, list_call}
 use Rattle.refusals.specs.Refusals.{jobs_in}
 use Rattle.refusals.proofs.RefusalLaws.{Fills}

@@ -15,7 +15,7 @@ use Rattle.graph.specs.Graph.{framed_of, frame_file, graph_of, graph_file}
 use Rattle.graph.specs.FileLaws.{honest_work}
 use Rattle.zero_delay.specs.ZeroDelay.{Sofar, zero_delay, ran_of, filled_by}
 use Rattle.plan.specs.Plan.{plan_call, plan_filled, check_call}
-use Rattle.timed.specs.Promise.{honest_call}
+use Rattle.timed.proofs.Promise.{honest_call}
 use Rattle.timed.specs.Timed.{timed_call, timed_filled}
 use Rattle.listing.specs.Listing.{list_call, listed_of, list_filled}
 use Rattle.refusals.specs.Refusals.{Returns, NothingElse, Leaves, jobs_in}

@@ -6,7 +6,7 @@ use Rattle.network.specs.Read.{load}
 use Rattle.graph.specs.Work.{load_work, work_of, job_count_of}
 use Rattle.promises.specs.Turns.{Between, turn_call}
 use Rattle.turns.specs.Turned.{turned_of, turn_filled}
-use Rattle.turns.specs.Promise.{honest_call}
+use Rattle.turns.proofs.Promise.{honest_call}
 use Rattle.promises.specs.Promise.{Promised}
 use Rattle.promises.proofs.Promise.{promised}
 use Rattle.refusals.specs.Refusals.{Returns, Leaves, jobs_in}

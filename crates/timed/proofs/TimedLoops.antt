@@ -13,7 +13,7 @@ use Rattle.reply.specs.ResultLaws.{order_zero, order_more, order_refused}
 use Rattle.reply.specs.declared.Reply.TheVariants.{LongDuration}
 use Rattle.graph.specs.Work.{Work}
 use Rattle.timed.specs.TimedTold.{ok_within, key_at, KeysOf, LeastOf, Lent, Timable, Reached, Stepped, AllTimed}
-use Rattle.timed.specs.TimedSteps.{none_reached, all_timed}
+use Rattle.timed.proofs.TimedSteps.{none_reached, all_timed}
 
 -- ---- the durations judged so far
 

@@ -2,8 +2,4 @@ pub mod Timed
 pub mod Opens
 pub mod Examples
 pub mod PlannedOrder
-pub mod TimedLaws
 pub mod TimedTold
-pub mod TimedSteps
-pub mod Promise
-pub mod CallLaws

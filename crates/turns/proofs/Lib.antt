@@ -9,3 +9,4 @@ mod OneTurn
 mod Parts
 mod FrameLoop
 mod FramesLoop
+pub mod Promise

@@ -16,8 +16,8 @@ use Rattle.machine.specs.Samples.{ok_samples}
 use Rattle.machine.specs.SampleLaws.{honest_samples}
 use Rattle.plan.specs.Plan.{checked_by}
 use Rattle.plan.specs.CheckTold.{Judged}
-use Rattle.plan.specs.CheckLaws.{honest_check}
-use Rattle.plan.specs.CallLaws.{frame_tables}
+use Rattle.plan.proofs.CheckLaws.{honest_check}
+use Rattle.plan.proofs.CallLaws.{frame_tables}
 use Rattle.promises.specs.Turns.{Between, ok_turns, turn_work, turn_call}
 use Rattle.turns.specs.Turned.{turned_of, turn_filled}
 use Rattle.turns.specs.Calls.{refused_with, judged_by, ran_in}

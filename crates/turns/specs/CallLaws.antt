@@ -18,7 +18,7 @@ use Rattle.marks.specs.Laws.{marked_row}
 use Rattle.marks.specs.declared.Row.{Row}
 use Rattle.network.specs.ListLaws.{get_or_table, fill_at}
 use Rattle.graph.specs.Work.{Work, work_of, job_count_of, cost, precedes}
-use Rattle.graph.specs.WorkLaws.{goes_forward}
+use Rattle.graph.proofs.WorkLaws.{goes_forward}
 use Rattle.graph.specs.Graph.{rows_to}
 use Rattle.graph.specs.FrameOf.{FrameOf, work_in, count_is, work_is}
 use Rattle.graph.specs.Columns.{Column}
@@ -35,7 +35,7 @@ use Rattle.machine.specs.Acting.{KindsTold}
 use Rattle.zero_delay.specs.CallLaws.{tables, ready}
 use Rattle.plan.specs.Plan.{start_at, end_at, checked_by}
 use Rattle.plan.specs.Feasible.{Feasible}
-use Rattle.plan.specs.CheckLaws.{checked_feasible, honest_check}
+use Rattle.plan.proofs.CheckLaws.{checked_feasible, honest_check}
 use Rattle.promises.specs.Turns.{Run, Between, turns, at_start, ok_turns}
 use Rattle.turns.specs.Turned.{turned_of, turn_filled}
 use Rattle.promises.specs.TurnLaws.{turns_to, to_all, each_counted}

@@ -2,7 +2,7 @@
 use Rattle.std.proofs.Common.{ap, sym, ◌∙◌}
 use Rattle.reply.specs.Result.{answer_of}
 use Rattle.graph.specs.FrameOf.{file_frame}
-use Rattle.plan.specs.CallLaws.{check_none, check_many, check_refused, check_work_lem}
+use Rattle.plan.proofs.CallLaws.{check_none, check_many, check_refused, check_work_lem}
 use Rattle.plan.proofs.check.Goals as goal
 
 pub returns-then-processors-lt1 : goal.returns-then-processors-lt1

@@ -2,7 +2,7 @@
 use Rattle.std.proofs.Common.{ap, arith, sym, ◌∙◌}
 use Rattle.reply.specs.Result.{answer_of}
 use Rattle.graph.specs.FrameOf.{few_jobs}
-use Rattle.plan.specs.CallLaws.{frame_tables, frame_checkable, short_plan, long_plan}
+use Rattle.plan.proofs.CallLaws.{frame_tables, frame_checkable, short_plan, long_plan}
 use Rattle.plan.proofs.check_framed.Goals as goal
 
 pub overflow_mul-n : goal.overflow_mul-n

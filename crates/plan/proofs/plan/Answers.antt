@@ -2,7 +2,7 @@
 use Rattle.std.proofs.Common.{ap, sym, ◌∙◌}
 use Rattle.reply.specs.Result.{answer_of}
 use Rattle.graph.specs.FrameOf.{file_frame}
-use Rattle.plan.specs.CallLaws.{plan_none, plan_many, plan_refused, plan_work_lem, refused_filled, same_filled}
+use Rattle.plan.proofs.CallLaws.{plan_none, plan_many, plan_refused, plan_work_lem, refused_filled, same_filled}
 use Rattle.plan.proofs.plan.Goals as goal
 
 pub returns-then-processors-lt1 : goal.returns-then-processors-lt1

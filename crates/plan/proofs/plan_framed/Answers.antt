@@ -2,7 +2,7 @@
 use Rattle.std.proofs.Common.{ap, arith, sym, ◌∙◌}
 use Rattle.reply.specs.Result.{answer_of}
 use Rattle.graph.specs.FrameOf.{few_jobs}
-use Rattle.plan.specs.CallLaws.{short_room, enough_room, honest_plan, planned_answer, planned_filled, planned_not, front_size, front_fits, refused_filled, same_filled}
+use Rattle.plan.proofs.CallLaws.{short_room, enough_room, honest_plan, planned_answer, planned_filled, planned_not, front_size, front_fits, refused_filled, same_filled}
 use Rattle.plan.proofs.plan_framed.Goals as goal
 
 pub overflow_mul-n : goal.overflow_mul-n

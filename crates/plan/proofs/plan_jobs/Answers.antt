@@ -1,5 +1,5 @@
 -- `plan_jobs` meets its contract: the columns are those of the frame's work, and its jobs are placed by them.
-use Rattle.plan.specs.CallLaws.{tabled}
+use Rattle.plan.proofs.CallLaws.{tabled}
 use Rattle.plan.proofs.plan_jobs.Goals as goal
 
 pub place_all-requires : goal.place_all-requires

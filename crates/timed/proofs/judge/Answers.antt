@@ -2,8 +2,8 @@
 use Rattle.std.proofs.Common.{ap, arith, sym, ◌∙◌}
 use Rattle.reply.specs.Result.{answer_of}
 use Rattle.graph.specs.FrameOf.{few_jobs}
-use Rattle.plan.specs.CallLaws.{frame_tables, frame_checkable}
-use Rattle.timed.specs.CallLaws.{plan_good, plan_faulty}
+use Rattle.plan.proofs.CallLaws.{frame_tables, frame_checkable}
+use Rattle.timed.proofs.CallLaws.{plan_good, plan_faulty}
 use Rattle.timed.proofs.judge.Goals as goal
 
 pub judge-judged-requires : goal.judge-judged-requires

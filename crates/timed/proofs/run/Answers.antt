@@ -2,9 +2,9 @@
 use Rattle.std.proofs.Common.{ap, sym, ◌∙◌}
 use Rattle.reply.specs.Result.{answer_of}
 use Rattle.graph.specs.FrameOf.{file_frame}
-use Rattle.plan.specs.CallLaws.{refused_filled, same_filled}
-use Rattle.timed.specs.CallLaws.{call_none, call_many, call_refused, call_work}
-use Rattle.timed.specs.Promise.{told_time, told_in_time}
+use Rattle.plan.proofs.CallLaws.{refused_filled, same_filled}
+use Rattle.timed.proofs.CallLaws.{call_none, call_many, call_refused, call_work}
+use Rattle.timed.proofs.Promise.{told_time, told_in_time}
 use Rattle.timed.proofs.run.Goals as goal
 
 pub returns-then-processors-lt1 : goal.returns-then-processors-lt1

@@ -2,8 +2,8 @@
 use Rattle.std.proofs.Common.{ap, arith, sym, ◌∙◌}
 use Rattle.reply.specs.Result.{answer_of}
 use Rattle.graph.specs.FrameOf.{few_jobs}
-use Rattle.plan.specs.CallLaws.{refused_filled}
-use Rattle.timed.specs.CallLaws.{admitted, short_plan, short_durations, short_out, work_refused, work_filled, work_answer, times_long, times_fit}
+use Rattle.plan.proofs.CallLaws.{refused_filled}
+use Rattle.timed.proofs.CallLaws.{admitted, short_plan, short_durations, short_out, work_refused, work_filled, work_answer, times_long, times_fit}
 use Rattle.timed.proofs.run_framed.Goals as goal
 
 pub overflow_mul-n : goal.overflow_mul-n

@@ -1,5 +1,5 @@
 -- `time_jobs` meets its contract: the columns are those of the frame's work, and what keeps the rule by them is what is computed.
-use Rattle.timed.specs.CallLaws.{timable, times_are}
+use Rattle.timed.proofs.CallLaws.{timable, times_are}
 use Rattle.timed.proofs.time_jobs.Goals as goal
 
 pub time_all-requires : goal.time_all-requires

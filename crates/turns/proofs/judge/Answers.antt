@@ -1,7 +1,7 @@
 -- `judge` meets its contract: the plan's fault, the first wrong sample, or what the turns say.
 use Rattle.std.proofs.Common.{arith, mul-le-mul, sym, ◌∙◌}
 use Rattle.graph.specs.FrameOf.{few_jobs}
-use Rattle.plan.specs.CallLaws.{frame_checkable}
+use Rattle.plan.proofs.CallLaws.{frame_checkable}
 use Rattle.turns.specs.CallCases.{plan_told, samples_told, judged_plan, judged_sample, judged_turns}
 use Rattle.turns.proofs.judge.Goals as goal
 

@@ -2,7 +2,7 @@
 use Rattle.std.proofs.Common.{sym, ◌∙◌}
 use Rattle.graph.specs.FrameOf.{file_frame}
 use Rattle.turns.specs.CallCases.{no_processors, many_processors, no_frames, many_frames, frame_refused, frame_run, refused_ran, refused_filled, same_ran, same_filled}
-use Rattle.turns.specs.Promise.{told_promise}
+use Rattle.turns.proofs.Promise.{told_promise}
 use Rattle.turns.proofs.run.Goals as goal
 
 pub returns-then-processors-lt1 : goal.returns-then-processors-lt1

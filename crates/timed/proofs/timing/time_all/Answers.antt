@@ -1,4 +1,4 @@
-use Rattle.timed.specs.TimedSteps.{small_starts}
+use Rattle.timed.proofs.TimedSteps.{small_starts}
 use Rattle.timed.proofs.TimedLoops.{set_out, one_timed, timed_all}
 use Rattle.timed.proofs.timing.time_all.Goals as goal
 

@@ -1,6 +1,6 @@
 -- `timing::time_next` meets its contract: the job that is planned next gets its start and its end.
 use Rattle.std.proofs.Common.{arith, rules}
-use Rattle.timed.specs.TimedSteps.{chosen_low, chosen_processor, chosen_small, chosen_reached}
+use Rattle.timed.proofs.TimedSteps.{chosen_low, chosen_processor, chosen_small, chosen_reached}
 use Rattle.timed.proofs.timing.time_next.Goals as goal
 
 pub bounds-plan-job : goal.bounds-plan-job

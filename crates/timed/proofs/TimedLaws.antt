@@ -15,7 +15,8 @@ use Rattle.network.specs.ListLaws.{get_or_table}
 use Rattle.graph.specs.Work.{Work, job_count_of, deadline, cost}
 use Rattle.plan.specs.Plan.{start_at, end_at}
 use Rattle.timed.specs.Timed.{start_is, duration_of, start_in, end_in, Timed, ends_after, times_to, times_of}
-use Rattle.timed.specs.PlannedOrder.{Ordered, start_same, starts_by}
+use Rattle.timed.specs.PlannedOrder.{Ordered}
+use Rattle.timed.proofs.PlannedOrder.{start_same, starts_by}
 
 -- ---- more pass the one test than the other
 

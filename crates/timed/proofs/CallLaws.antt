@@ -21,14 +21,14 @@ use Rattle.graph.specs.FrameOf.{FrameOf, work_in, work_is, job_is, jobs_is, few_
 use Rattle.graph.specs.declared.Framed.{Framed}
 use Rattle.graph.specs.declared.Job.{Job}
 use Rattle.plan.specs.Plan.{checked_by, plan_filled}
-use Rattle.plan.specs.CheckLaws.{honest_check}
+use Rattle.plan.proofs.CheckLaws.{honest_check}
 use Rattle.plan.specs.PlanTold.{columns, Tabled}
-use Rattle.plan.specs.CallLaws.{tabled}
+use Rattle.plan.proofs.CallLaws.{tabled}
 use Rattle.timed.specs.Timed.{duration_of, times_of, ok_durations, ok_timed, timed_work, timed_call, timed_filled}
 use Rattle.timed.specs.PlannedOrder.{Ordered}
-use Rattle.timed.specs.TimedLaws.{computed, one_solution}
+use Rattle.timed.proofs.TimedLaws.{computed, one_solution}
 use Rattle.timed.specs.TimedTold.{ok_within, lent, Timable, AllTimed, Admitted}
-use Rattle.timed.specs.Promise.{durations_short, honest_timed, ordered_by}
+use Rattle.timed.proofs.Promise.{durations_short, honest_timed, ordered_by}
 
 -- a column of whatever table
 any_column : {A : Type 0} → A → (A → ℕ) → List A → List ℕ

@@ -20,7 +20,8 @@ use Rattle.plan.specs.StartLaws.{ready_by_lem}
 use Rattle.plan.specs.Plan.{processor_at, start_at, end_at, ready_at, start_after}
 use Rattle.plan.specs.PlanTold.{row_at, ready_by}
 use Rattle.timed.specs.Timed.{is_earlier, job_before, end_before, start_is, duration_of, start_in, end_in, Timed}
-use Rattle.timed.specs.PlannedOrder.{Ordered, earlier_true, earlier_make, before_same, before_none, starts_early, starts_apart, before_is, start_same, starts_by}
+use Rattle.timed.specs.PlannedOrder.{Ordered}
+use Rattle.timed.proofs.PlannedOrder.{earlier_true, earlier_make, before_same, before_none, starts_early, starts_apart, before_is, start_same, starts_by}
 use Rattle.timed.specs.TimedTold.{Lent, Timable, StartsSmall, KeysOf, LeastOf, is_timed, Reached}
 
 -- ---- keys

@@ -11,15 +11,16 @@ use Rattle.reply.specs.declared.Reply.TheVariants.{OutOfRange, ShortBuffer, Long
 use Rattle.network.specs.Net.{Net}
 use Rattle.network.specs.Valid.{Valid}
 use Rattle.graph.specs.Work.{Work, work_of, load_work, job_count_of, deadline, cost}
-use Rattle.graph.specs.WorkLaws.{goes_forward}
+use Rattle.graph.proofs.WorkLaws.{goes_forward}
 use Rattle.graph.specs.FileLaws.{honest_work}
 use Rattle.graph.specs.Promise.{jobs_are, file_work}
 use Rattle.plan.specs.Plan.{checked_by, plan_filled}
-use Rattle.plan.specs.Promise.{sets_front}
-use Rattle.plan.specs.CheckLaws.{checked_feasible, honest_check}
+use Rattle.plan.proofs.Promise.{sets_front}
+use Rattle.plan.proofs.CheckLaws.{checked_feasible, honest_check}
 use Rattle.timed.specs.Timed.{start_is, duration_of, start_in, end_in, Timed, times_of, ok_durations, ok_timed, timed_work, timed_call, timed_filled, KeepsTime, InTime}
-use Rattle.timed.specs.PlannedOrder.{Ordered, start_same}
-use Rattle.timed.specs.TimedLaws.{computed, one_solution, ends_in_time}
+use Rattle.timed.specs.PlannedOrder.{Ordered}
+use Rattle.timed.proofs.PlannedOrder.{start_same}
+use Rattle.timed.proofs.TimedLaws.{computed, one_solution, ends_in_time}
 
 -- ---- what the durations say
 

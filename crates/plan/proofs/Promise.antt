@@ -13,11 +13,11 @@ use Rattle.reply.specs.declared.Reply.TheVariants.{OutOfRange, ShortBuffer}
 use Rattle.network.specs.Net.{Net}
 use Rattle.network.specs.Valid.{Valid}
 use Rattle.graph.specs.Work.{Work, work_of, load_work, job_count_of, cost}
-use Rattle.graph.specs.WorkLaws.{goes_forward}
+use Rattle.graph.proofs.WorkLaws.{goes_forward}
 use Rattle.graph.specs.Promise.{jobs_are, file_work}
 use Rattle.plan.specs.Plan.{end_at, Planning, is_placed, last_end, can_place, start_on, placing, planned_by, fault, checked_by, plan_work, plan_call, plan_filled, check_work, check_call}
 use Rattle.plan.specs.Feasible.{Feasible, Faulty}
-use Rattle.plan.specs.CheckLaws.{checked_feasible, feasible_checked, refused_faulty, faulty_refused, passed_in_time, checked_same}
+use Rattle.plan.proofs.CheckLaws.{checked_feasible, feasible_checked, refused_faulty, faulty_refused, passed_in_time, checked_same}
 use Rattle.plan.specs.PlaceLaws.{Plannable, Sound, start_in_frame}
 use Rattle.plan.specs.PlannerLaws.{Choice, Misses, SoundOr, has_choice, placed_sound, planned_feasible, planned_size, planned_misses}
 

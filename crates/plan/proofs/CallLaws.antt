@@ -17,7 +17,7 @@ use Rattle.marks.specs.declared.Row.{Row}
 use Rattle.network.specs.ListLaws.{get_or_table, fill_at}
 use Rattle.graph.specs.Sequence.{no_job}
 use Rattle.graph.specs.Work.{Work, work_of, load_work, job_count_of, precedes}
-use Rattle.graph.specs.WorkLaws.{goes_forward}
+use Rattle.graph.proofs.WorkLaws.{goes_forward}
 use Rattle.graph.specs.Graph.{frame_file, rows_to}
 use Rattle.graph.specs.Columns.{Column}
 use Rattle.graph.specs.FrameOf.{FrameOf, work_in, work_is, count_is, job_is, jobs_is, file_accepted, file_refused}
@@ -28,7 +28,7 @@ use Rattle.plan.specs.Plan.{planned_by, plan_work, plan_call, plan_filled, check
 use Rattle.plan.specs.CheckTold.{TablesOf, Checkable}
 use Rattle.plan.specs.CheckTables.{tables_of, checkable}
 use Rattle.plan.specs.PlanTold.{row_at, columns, Tabled, PlannedIs, PlannedAs}
-use Rattle.plan.specs.Promise.{plannable, planner_misses, planner_size}
+use Rattle.plan.proofs.Promise.{plannable, planner_misses, planner_size}
 use Rattle.plan.specs.declared.planning.Planned.{Planned}
 
 abbrev row_by : ℕ → ℕ → Row
