@@ -3,11 +3,7 @@ pub mod TurnLaws
 pub mod SampleWords
 pub mod Jobs
 pub mod Kept
-pub mod Running
 pub mod Accepted
 pub mod Outputs
-pub mod Working
-pub mod Stretches
 pub mod Actions
-pub mod Finishing
 pub mod Promise

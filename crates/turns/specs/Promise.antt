@@ -28,7 +28,8 @@ use Rattle.plan.specs.CheckLaws.{honest_check}
 use Rattle.plan.specs.Promise.{sets_front}
 use Rattle.promises.specs.Turns.{Between, is_finished, ok_turns, turn_work, turn_call}
 use Rattle.promises.specs.Outputs.{HasFinished}
-use Rattle.promises.specs.Promise.{Promised, promised}
+use Rattle.promises.specs.Promise.{Promised}
+use Rattle.promises.proofs.Promise.{promised}
 use Rattle.turns.specs.Turned.{turned_of, turn_filled}
 use Rattle.turns.specs.CallLaws.{honest_turns}
 use Rattle.turns.specs.declared.TurnRan.{TurnRan}

@@ -15,12 +15,12 @@ use Rattle.plan.specs.Plan.{processor_at, start_at}
 use Rattle.promises.specs.Turns.{Between, Run, is_finished, stand_of, next_frame, waits, turn}
 use Rattle.promises.specs.TurnLaws.{waits_last}
 use Rattle.determinism.specs.Setup
-use Rattle.determinism.specs.Turns.{Ok}
+use Rattle.determinism.proofs.Turns.{Ok}
 use Rattle.promises.specs.SampleWords.{get_or_same}
 use Rattle.promises.specs.Kept.{setup}
-use Rattle.promises.specs.Running.{Fit, Any, all_finished, lawful, moved}
+use Rattle.promises.proofs.Running.{Fit, Any, all_finished, lawful, moved}
 use Rattle.promises.specs.Outputs.{HasFinished}
-use Rattle.promises.specs.Working.{turn_works, turn_waits}
+use Rattle.promises.proofs.Working.{turn_works, turn_waits}
 
 module _ (r : Run) (processors : ℕ) (g : Fit r processors) (m i : ℕ) (apart : processor_at r.plan i ≢ m) where
   abbrev J : ℕ

@@ -29,7 +29,7 @@ use Rattle.timed.specs.TimedLaws.{computed}
 use Rattle.timed.specs.Promise.{ordered_by, DoneBy, call_done}
 use Rattle.listing.specs.Listing.{listing_text, listed, list_call}
 use Rattle.refusals.specs.Refusals.{jobs_in}
-use Rattle.refusals.specs.RefusalLaws.{Fills}
+use Rattle.refusals.proofs.RefusalLaws.{Fills}
 use Rattle.refusals.specs.Steps.{after_processors, after_frames, after_room, after_file, jobs_of_lem}
 
 -- ---- the writer

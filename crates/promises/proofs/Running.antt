@@ -27,7 +27,7 @@ use Rattle.promises.specs.Turns.{Between, Run, idle, is_finished, stand_of, next
 use Rattle.promises.specs.TurnLaws.{waits_last}
 use Rattle.determinism.specs.Setup.{Lawful}
 use Rattle.determinism.specs.Setup
-use Rattle.determinism.specs.Turns.{Ok, Sound, sound_turn, sound_fresh, final_state, finished_output}
+use Rattle.determinism.proofs.Turns.{Ok, Sound, sound_turn, sound_fresh, final_state, finished_output}
 use Rattle.promises.specs.SampleWords.{get_or_same, no_samples, put_other}
 use Rattle.promises.specs.Jobs.{Ordered, same_state, machine, done_job, ran_none, ran_state, ran_output}
 use Rattle.promises.specs.Kept.{setup, apart}

@@ -19,9 +19,9 @@ use Rattle.timed.specs.Promise.{honest_call}
 use Rattle.timed.specs.Timed.{timed_call, timed_filled}
 use Rattle.listing.specs.Listing.{list_call, listed_of, list_filled}
 use Rattle.refusals.specs.Refusals.{Returns, NothingElse, Leaves, jobs_in}
-use Rattle.refusals.specs.RefusalLaws.{returns, leaves}
+use Rattle.refusals.proofs.RefusalLaws.{returns, leaves}
 use Rattle.refusals.specs.Zeros.{NoNetwork, NoFrame, NoGraph, NoRun}
-use Rattle.refusals.specs.Calls.{writing_fits, honest_zero_delay, zero_delay_fills, honest_plan_call, plan_fills, honest_check_call, timed_fills, honest_list_call, list_fits}
+use Rattle.refusals.proofs.Calls.{writing_fits, honest_zero_delay, zero_delay_fills, honest_plan_call, plan_fills, honest_check_call, timed_fills, honest_list_call, list_fits}
 
 no_network_lem : NoNetwork no_network
 no_network_lem = record {

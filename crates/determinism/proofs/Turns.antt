@@ -8,6 +8,7 @@ use Rattle.reply.specs.AllAny.{all_true}
 use Rattle.reply.specs.Pick.{Picked, pick_is}
 use Rattle.determinism.specs.Interleaving.{Shape, waiting, running, finished, is_wait, is_fin}
 use Rattle.determinism.specs.Interleaving
+use Rattle.determinism.proofs.Interleaving.{inv_start, inv_begin, inv_act, inv_determined}
 use Rattle.determinism.specs.Jobs.{system, zero_delay_state, zero_output}
 use Rattle.determinism.specs.Setup.{Setup, Lawful, past, ready, place, order, next, starts, goes_on, turn, can, works_at, works, idle, busy, status, seen}
 
@@ -159,8 +160,8 @@ module _ {K : Shape} (U : Setup K) (G : Lawful U) where
       pub inv : Interleaving.Inv (system G.machine s₀) (seen U c)
 
     sound_did : (c c' : C) → Sound c → Did c c' → Ok c' → Sound c'
-    sound_did c c' v (began j h b) k = record { ok = k; inv = Interleaving.inv_begin (system G.machine s₀) (seen U c) (seen U c') j b v.inv }
-    sound_did c c' v (acted j l h a) k = record { ok = k; inv = Interleaving.inv_act (system G.machine s₀) (seen U c) (seen U c') j l a v.inv }
+    sound_did c c' v (began j h b) k = record { ok = k; inv = inv_begin (system G.machine s₀) (seen U c) (seen U c') j b v.inv }
+    sound_did c c' v (acted j l h a) k = record { ok = k; inv = inv_act (system G.machine s₀) (seen U c) (seen U c') j l a v.inv }
 
     pub sound_turn : (p : ℕ) (c : C) → Sound c → Sound (turn U p c)
     sound_turn p c v = split (works U p c)
@@ -184,14 +185,14 @@ module _ {K : Shape} (U : Setup K) (G : Lawful U) where
         beyond = λ j h. f.unmarked j;
         here = λ p j e. absurd (omega (arith, f.idle_all p));
       };
-      inv = Interleaving.inv_start (system G.machine s₀) (seen U c) (fresh_waits c f) f.same;
+      inv = inv_start (system G.machine s₀) (seen U c) (fresh_waits c f) f.same;
     }
 
     -- a finished job's output is the one that the zero-delay run gives
     pub finished_output : (c : C) → Sound c → (j : ℕ) → is_finished c j ≡ true → output_of c j ≡ zero_output U.steps s₀ j
-    finished_output c v j e = (Interleaving.inv_determined (system G.machine s₀) (seen U c) v.inv).outputs j (output_of c j) (rw e)
+    finished_output c v j e = (inv_determined (system G.machine s₀) (seen U c) v.inv).outputs j (output_of c j) (rw e)
 
     -- when all jobs have finished, every place is as the zero-delay run leaves it
     pub final_state : (c : C) → Sound c → ((j : ℕ) → j < n → is_finished c j ≡ true) → (r : Place) → view r (shared c) ≡ view r (zero_delay_state U.steps s₀ n)
-    final_state c v f = (Interleaving.inv_determined (system G.machine s₀) (seen U c) v.inv).final n (λ j h. is_finished_fin c j (f j h))
+    final_state c v f = (inv_determined (system G.machine s₀) (seen U c) v.inv).final n (λ j h. is_finished_fin c j (f j h))
         (λ j h. rw (v.ok.beyond j h) (ap is_wait (busy_none (job c (processor j)) (own c (processor j)) j (λ z. omega (arith, (v.ok.here (processor j) j z).0)))))

@@ -7,8 +7,8 @@ use native.Mathlib.Omega.{arith}
 use Rattle.graph.specs.Work.{job_count_of}
 use Rattle.promises.specs.Turns.{Between, Run, waits, turn, turns, at_start}
 use Rattle.promises.specs.TurnLaws.{turns_to, to_more, more_turns}
-use Rattle.promises.specs.Running.{Fit, Any, run_any}
-use Rattle.promises.specs.Working.{stretch_works, frame_turns, all_turns, waits_only}
+use Rattle.promises.proofs.Running.{Fit, Any, run_any}
+use Rattle.promises.proofs.Working.{stretch_works, frame_turns, all_turns, waits_only}
 
 -- the turns of a list from one to another
 abbrev part : List ℕ → ℕ → ℕ → List ℕ

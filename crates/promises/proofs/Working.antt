@@ -16,11 +16,11 @@ use Rattle.promises.specs.Turns.{Between, Run, is_finished, stand_of, next_frame
 use Rattle.promises.specs.TurnLaws.{waits_last}
 use Rattle.determinism.specs.Interleaving.{Status, waiting, running, finished}
 use Rattle.determinism.specs.Setup
-use Rattle.determinism.specs.Turns.{Sound, sound_turn}
+use Rattle.determinism.proofs.Turns.{Sound, sound_turn}
 use Rattle.determinism.specs.Runs.{sum_most}
-use Rattle.determinism.specs.Progress
+use Rattle.determinism.proofs.Progress
 use Rattle.promises.specs.Kept.{setup}
-use Rattle.promises.specs.Running.{Fit, Holds, Any, all_finished, lawful, base, turn_is, turn_any, Moved, moved, holds_waits, holds_start, ends, stays}
+use Rattle.promises.proofs.Running.{Fit, Holds, Any, all_finished, lawful, base, turn_is, turn_any, Moved, moved, holds_waits, holds_start, ends, stays}
 
 module _ (r : Run) (processors : ℕ) (g : Fit r processors) where
   abbrev J : ℕ

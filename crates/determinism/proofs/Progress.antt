@@ -11,7 +11,7 @@ use Rattle.determinism.specs.Interleaving.{Shape, Status, waiting, running, fini
 use Rattle.determinism.specs.Interleaving
 use Rattle.determinism.specs.Jobs.{system}
 use Rattle.determinism.specs.Setup.{Setup, Lawful, past, order, next, turn, can, works_at, works, idle, status}
-use Rattle.determinism.specs.Turns.{Sound, Fresh, Did, began, acted, did, sound_turn, sound_fresh, fresh_waits}
+use Rattle.determinism.proofs.Turns.{Sound, Fresh, Did, began, acted, did, sound_turn, sound_fresh, fresh_waits}
 use Rattle.determinism.specs.Runs.{run, worked, unchanged, works_once, bounded, sum_less, sum_most}
 
 module _ {K : Shape} (U : Setup K) (G : Lawful U) where

@@ -1,0 +1,4 @@
+pub mod RefusalLaws
+pub mod Calls
+pub mod Promise
+pub mod TurnRun
