@@ -3,7 +3,7 @@ use Rattle.std.specs.Prelude.{ℕ, zero, suc, ◌≤◌, ◌<◌, ◌≡◌, ref
 use Rattle.std.proofs.Common.{sym, ap, subst, ◌∙◌, arith}
 use Rattle.std.proofs.Math.Decide.{ℕ_discrete, dec_lt}
 use Rattle.reply.specs.Tests.{split, clash}
-use Rattle.determinism.specs.Interleaving.{Shape, System, Turn, Status, waiting, running, finished, is_wait, is_fin, due, settle, Begin, Act, Good, Fine, Inv, Reach, stay, begin, act, Determined}
+use Rattle.determinism.specs.Interleaving.{Shape, System, Turn, Status, waiting, running, finished, is_wait, is_fin, settle, Begin, Act, Good, Fine, Inv, Reach, stay, begin, act, Determined}
 
 module _ {K : Shape} (Y : System K) where
   open K use {State, Own, Output, Place, view}

@@ -1,9 +1,6 @@
 -- Jobs that are interleaved give what they give when they are done whole and in order: if any two jobs that touch one place are ordered, and a job begins only
 -- when those ordered before it have finished. Nothing is assumed: the jobs, what they touch and their order are parameters.
-use Rattle.std.specs.Prelude.{ℕ, zero, suc, ◌≤◌, ◌<◌, ◌≡◌, refl, ◌≢◌, Bool, true, false, cond}
-use Rattle.std.proofs.Common.{sym, ap, subst, ◌∙◌, arith}
-use Rattle.std.proofs.Math.Decide.{ℕ_discrete, dec_lt}
-use Rattle.reply.specs.Tests.{split, clash}
+use Rattle.std.specs.Prelude.{ℕ, suc, ◌≤◌, ◌<◌, ◌≡◌, ◌≢◌, Bool, true, false, cond}
 
 -- a job has not begun, or it is under way and keeps something of its own, or it has finished with an output
 pub data Status (Own Output : Type 0) : Type 0 where
