@@ -13,6 +13,7 @@ use Rattle.machine.specs.Actions.{channel_of, effect, output_after, skipped}
 use Rattle.machine.specs.WholeJob.{program_of, next_action}
 use Rattle.machine.specs.Elements.{get_or_agree, nth_set_other, nth_set_both}
 use Rattle.machine.specs.GoodActions.{GoodFor, net_good}
+use Rattle.machine.specs.Locality.{Ends}
 use Rattle.machine.specs.Places.{Place, variable, channel, view, touches, Agree, Local}
 use Rattle.machine.specs.declared.Sample.{Sample}
 use Rattle.machine.specs.declared.Under.{Under}
@@ -160,12 +161,6 @@ valid_local net ok p = record {
 }
 
 -- ---- two processes
-
--- p and q are the two ends of a channel, either way round
-abbrev pub Ends : Net → ℕ → ℕ → Type 0
-Ends net p q =
-    (c : ℕ) × (c < length net.channels)
-    × ((((channel_of net c).writer ≡ p) × ((channel_of net c).reader ≡ q)) ⊎ (((channel_of net c).reader ≡ p) × ((channel_of net c).writer ≡ q)))
 
 -- processes that touch one place are one process, or the two ends of a channel
 pub meets : (net : Net) → (p q : ℕ) (r : Place) → touches net p r ≡ true → touches net q r ≡ true → (p ≡ q) ⊎ Ends net p q

@@ -21,3 +21,4 @@ pub mod TableLaws
 pub mod Places
 pub mod Elements
 pub mod Opens
+pub mod Locality

@@ -12,25 +12,15 @@ use Rattle.reply.specs.declared.Reply.{Reply}
 use Rattle.reply.specs.declared.Reply.TheVariants.{OutOfRange, ShortBuffer}
 use Rattle.network.specs.Net.{Net}
 use Rattle.network.specs.Valid.{Valid}
-use Rattle.graph.specs.Work.{Work, work_of, load_work, job_count_of, cost}
+use Rattle.graph.specs.Work.{Work, work_of, load_work, job_count_of}
 use Rattle.graph.proofs.WorkLaws.{goes_forward}
 use Rattle.graph.specs.Promise.{jobs_are, file_work}
-use Rattle.plan.specs.Plan.{end_at, Planning, is_placed, last_end, can_place, start_on, placing, planned_by, fault, checked_by, plan_work, plan_call, plan_filled, check_work, check_call}
+use Rattle.plan.specs.Plan.{end_at, Planning, can_place, start_on, placing, planned_by, fault, checked_by, plan_work, plan_call, plan_filled, check_work, check_call}
 use Rattle.plan.specs.Feasible.{Feasible, Faulty}
+use Rattle.plan.specs.Promise.{Small}
 use Rattle.plan.proofs.CheckLaws.{checked_feasible, feasible_checked, refused_faulty, faulty_refused, passed_in_time, checked_same}
 use Rattle.plan.specs.PlaceLaws.{Plannable, Sound, start_in_frame}
 use Rattle.plan.specs.PlannerLaws.{Choice, Misses, SoundOr, has_choice, placed_sound, planned_feasible, planned_size, planned_misses}
-
--- the numbers that the planner meets while s is placed: no sum of them passes 32 bits
-pub record Small (w : Work) (s : Planning) : Type 0 where
-  -- the last end on a processor
-  pub last : (p : ℕ) → last_end s p ≤ 2000
-  -- the end of a job that is placed
-  pub ends : (j : ℕ) → j < job_count_of w → is_placed s j ≡ true → end_at w s.words j ≤ 2000
-  -- the start, on any processor, of a job that can be placed
-  pub starts : (j p : ℕ) → j < job_count_of w → can_place w s j ≡ true → start_on w s j p ≤ 2000
-  -- and its end there, before it is held against the deadline
-  pub tries : (j p : ℕ) → j < job_count_of w → can_place w s j ≡ true → start_on w s j p + cost w j ≤ 4000
 
 module _ (net : Net) (ok : Valid net) where
   abbrev w : Work

@@ -11,3 +11,4 @@ pub mod CheckTold
 pub mod PlanTold
 pub mod PlanSteps
 pub mod CheckTables
+pub mod Promise

@@ -19,7 +19,8 @@ use Rattle.machine.specs.State.{State, start_state}
 use Rattle.machine.specs.WholeJob.{Did, program_of, started, act_state, act_under, at_end, go_on, whole_job}
 use Rattle.machine.specs.Samples.{sample_at, sample_words}
 use Rattle.machine.specs.Places.{Place, variable, channel, At, view, touches, Local}
-use Rattle.machine.proofs.Locality.{Ends, meets, valid_local}
+use Rattle.machine.specs.Locality.{Ends}
+use Rattle.machine.proofs.Locality.{meets, valid_local}
 use Rattle.machine.specs.declared.Sample.{Sample}
 use Rattle.machine.specs.declared.Under.{Under}
 use Rattle.zero_delay.specs.ZeroDelay.{jobs_done, process_in, ran_jobs}
