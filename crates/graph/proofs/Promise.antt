@@ -13,7 +13,7 @@ module _ (net : Net) (ok : Valid net) where
     forward = goes_forward net ok;
     sound = precedes_sound net ok;
     complete = precedes_complete net ok;
-    one_process_lem = λ i j l h e. precedes_complete net ok i j (record { lower = l; below = h; tied = inl e });
-    one_pair_lem = λ i j l h p. precedes_complete net ok i j (record { lower = l; below = h; tied = inr (pair_related net ok _ _ p) });
-    one_channel_lem = λ i j k l h c p. precedes_complete net ok i j (record { lower = l; below = h; tied = inr (channel_related net ok k _ _ c p) });
+    one_process = λ i j l h e. precedes_complete net ok i j (record { lower = l; below = h; tied = inl e });
+    one_pair = λ i j l h p. precedes_complete net ok i j (record { lower = l; below = h; tied = inr (pair_related net ok _ _ p) });
+    one_channel = λ i j k l h c p. precedes_complete net ok i j (record { lower = l; below = h; tied = inr (channel_related net ok k _ _ c p) });
   }

@@ -82,11 +82,11 @@ pub record Precedence (net : Net) : Type 0 where
   -- and wherever they say so
   pub complete : (i j : ℕ) → Precedes net i j → precedes (work_of net) i j ≡ true
   -- two jobs of one process are in order
-  pub one_process_lem : (i j : ℕ) → i < j → j < job_count_of (work_of net) → process_of (work_of net) i ≡ process_of (work_of net) j → precedes (work_of net) i j ≡ true
+  pub one_process : (i j : ℕ) → i < j → j < job_count_of (work_of net) → process_of (work_of net) i ≡ process_of (work_of net) j → precedes (work_of net) i j ≡ true
   -- two jobs whose processes have a pair of their own are in order
-  pub one_pair_lem : (i j : ℕ) → i < j → j < job_count_of (work_of net) → Paired net (process_of (work_of net) i) (process_of (work_of net) j) → precedes (work_of net) i j ≡ true
+  pub one_pair : (i j : ℕ) → i < j → j < job_count_of (work_of net) → Paired net (process_of (work_of net) i) (process_of (work_of net) j) → precedes (work_of net) i j ≡ true
   -- two jobs whose processes are the ends of one channel are in order
-  pub one_channel_lem : (i j k : ℕ) → i < j → j < job_count_of (work_of net) → k < length net.channels
+  pub one_channel : (i j k : ℕ) → i < j → j < job_count_of (work_of net) → k < length net.channels
       → Joins net k (process_of (work_of net) i) (process_of (work_of net) j) → precedes (work_of net) i j ≡ true
 
 -- ---- the proofs

@@ -136,7 +136,7 @@ fn released_at(
     requires good_processes { GoodProcesses n processes × (time < frame) × (frame ≤ 2000) }
     requires due_from { DueFrom n processes time due.old }
     ensures tells_released { TellsReleased n processes time frame result }
-    ensures due_from_2 { DueFrom n processes result.next due.new }
+    ensures due_next { DueFrom n processes result.next due.new }
 {
     let mut pending = 0u64;
     let mut next = frame;

@@ -61,10 +61,10 @@ fn after_channels(
     channels: [Channel; 16],
     at: usize,
 ) -> Loaded
-    requires n_bound { (n ≤ 12) × (channel_count ≤ 16) }
-    requires filled { Filled 12 no_process n processes }
-    requires filled_2 { Filled 66 no_pair pair_count pairs }
-    requires filled_3 { Filled 16 no_channel channel_count channels }
+    requires few { (n ≤ 12) × (channel_count ≤ 16) }
+    requires processes_filled { Filled 12 no_process n processes }
+    requires pairs_filled { Filled 66 no_pair pair_count pairs }
+    requires channels_filled { Filled 16 no_channel channel_count channels }
     ensures { result ≡ loaded_of (after_channels file.now n (take n processes) (take pair_count pairs) (take channel_count channels) at) }
 {
     let mut action_counts = no_counts();
@@ -116,10 +116,10 @@ fn after_channel_count(
     count: u32,
     at: usize,
 ) -> Loaded
-    requires n_bound { (n ≤ 12) × (count ≤ 16) }
-    requires filled { Filled 12 no_process n processes }
-    requires filled_2 { Filled 66 no_pair pair_count pairs }
-    requires rows_value { rows ≡ pair_rows (take pair_count pairs) }
+    requires few { (n ≤ 12) × (count ≤ 16) }
+    requires processes_filled { Filled 12 no_process n processes }
+    requires pairs_filled { Filled 66 no_pair pair_count pairs }
+    requires rows_of_pairs { rows ≡ pair_rows (take pair_count pairs) }
     ensures { result ≡ loaded_of (after_channel_count file.now n (take n processes) (take pair_count pairs) count at) }
 {
     let read = channels::read_channels(file, rows, n, count as usize, at);
@@ -141,10 +141,10 @@ fn after_pairs(
     rows: [Row; 12],
     at: usize,
 ) -> Loaded
-    requires n_bound { n ≤ 12 }
-    requires filled { Filled 12 no_process n processes }
-    requires filled_2 { Filled 66 no_pair pair_count pairs }
-    requires rows_value { rows ≡ pair_rows (take pair_count pairs) }
+    requires few { n ≤ 12 }
+    requires processes_filled { Filled 12 no_process n processes }
+    requires pairs_filled { Filled 66 no_pair pair_count pairs }
+    requires rows_of_pairs { rows ≡ pair_rows (take pair_count pairs) }
     ensures { result ≡ loaded_of (after_pairs file.now n (take n processes) (take pair_count pairs) at) }
 {
     match numbers::in_range(file, 0, 16, at) {
@@ -156,8 +156,8 @@ fn after_pairs(
 }
 
 fn after_pair_count(file: &[u8], n: u32, processes: [Process; 12], count: u32, at: usize) -> Loaded
-    requires n_bound { (n ≤ 12) × (count ≤ 66) }
-    requires filled { Filled 12 no_process n processes }
+    requires few { (n ≤ 12) × (count ≤ 66) }
+    requires processes_filled { Filled 12 no_process n processes }
     ensures { result ≡ loaded_of (after_pair_count file.now n (take n processes) count at) }
 {
     let read = pairs::read_pairs(file, n, count as usize, at);
@@ -178,8 +178,8 @@ fn after_pair_count(file: &[u8], n: u32, processes: [Process; 12], count: u32, a
 }
 
 fn after_processes(file: &[u8], n: u32, processes: [Process; 12], at: usize) -> Loaded
-    requires n_bound { n ≤ 12 }
-    requires filled { Filled 12 no_process n processes }
+    requires few { n ≤ 12 }
+    requires processes_filled { Filled 12 no_process n processes }
     ensures { result ≡ loaded_of (after_processes file.now n (take n processes) at) }
 {
     match numbers::in_range(file, 0, 66, at) {

@@ -19,7 +19,7 @@ fn frame(
     words: &mut [u32; 192],
 )
     requires ready { Ready program.now counts.now kinds.now processes.now jobs }
-    requires jobs_in_bounds { (2 * jobs ≤ length input.now) × (2 * jobs ≤ length output.old) × SoundWords words.old × Room words.old (24 * jobs) }
+    requires room { (2 * jobs ≤ length input.now) × (2 * jobs ≤ length output.old) × SoundWords words.old × Room words.old (24 * jobs) }
     ensures { FrameDone program.now counts.now kinds.now processes.now jobs input.now output.old variables.old words.old output.new variables.new words.new }
 {
     let mut j = 0usize;

@@ -1,5 +1,4 @@
 use Rattle.std.proofs.Common.{arith}
-use Rattle.std.proofs.Common.{arith}
 use Rattle.machine.proofs.JobLoop.{start, able, forward, turn, finish}
 use Rattle.machine.proofs.go_on.Goals as goal
 

@@ -1,6 +1,5 @@
 -- `job` meets its contract: it goes on from its start to the end of the program.
-use Rattle.std.proofs.Common.{arith}
-use Rattle.std.proofs.Common.{refl, inl, arith}
+use Rattle.std.proofs.Common.{arith, refl, inl}
 use Rattle.machine.proofs.job.Goals as goal
 
 pub go_on-under-requires : goal.go_on-under-requires

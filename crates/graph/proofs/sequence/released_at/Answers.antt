@@ -18,5 +18,5 @@ loop-i-preserved c = (
 pub returns-clause-tells_released : goal.returns-clause-tells_released
 returns-clause-tells_released c = released_ends _ _ _ _ _ c.requires.good_processes.0 c.requires.due_from _ _ _ _ c.loop-i.invariant.0 c.loop-i-test.false c.loop-i.invariant.1
 
-pub returns-clause-due_from_2 : goal.returns-clause-due_from_2
-returns-clause-due_from_2 c = released_due _ _ _ _ _ c.requires.good_processes.0 c.requires.due_from _ _ _ _ c.loop-i.invariant.0 c.loop-i-test.false c.loop-i.invariant.1
+pub returns-clause-due_next : goal.returns-clause-due_next
+returns-clause-due_next c = released_due _ _ _ _ _ c.requires.good_processes.0 c.requires.due_from _ _ _ _ c.loop-i.invariant.0 c.loop-i-test.false c.loop-i.invariant.1

@@ -78,7 +78,7 @@ pub loop-time-preserved : goal.loop-time-preserved
 loop-time-preserved c =
     let few = c.requires.few in
     let told = c.released_at-released.ensures.tells_released in
-    (told.within, times_go_on _ _ _ _ _ _ _ (search rules) told (taking_ends c.loop-p.invariant c.loop-p-test.false), c.released_at-released.ensures.due_from_2)
+    (told.within, times_go_on _ _ _ _ _ _ _ (search rules) told (taking_ends c.loop-p.invariant c.loop-p-test.false), c.released_at-released.ensures.due_next)
 
 pub returns : goal.returns
 returns c = rw (words_relate _ _ _ c.first_words-first.ensures) (times_end _ _ _ _ _ c.loop-time.invariant.0 c.loop-time-test.false c.loop-time.invariant.1)

@@ -1,5 +1,4 @@
-use Rattle.std.proofs.Common.{rules}
-use Rattle.std.proofs.Common.{ap, ◌∙◌, rules}
+use Rattle.std.proofs.Common.{rules, ap, ◌∙◌}
 use Rattle.machine.specs.ChannelTold.{contents_by}
 use Rattle.machine.specs.HeldOf.{held_of, no_held}
 use Rattle.machine.specs.declared.Channel.{Channel}

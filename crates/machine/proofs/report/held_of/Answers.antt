@@ -1,5 +1,4 @@
-use Rattle.std.proofs.Common.{arith, rules}
-use Rattle.std.proofs.Common.{refl, arith, rules}
+use Rattle.std.proofs.Common.{arith, rules, refl}
 use Rattle.machine.proofs.HeldLoops.{start, turn, values_told}
 use Rattle.machine.proofs.report.held_of.Goals as goal
 

@@ -1,6 +1,5 @@
 -- `samples::get` meets its contract.
 use Rattle.std.proofs.Common.{rules}
-use Rattle.std.proofs.Common.{rules}
 use Rattle.machine.specs.Samples.{sample_at}
 use Rattle.machine.proofs.samples.get.Goals as goal
 

@@ -1,5 +1,4 @@
-use Rattle.std.proofs.Common.{rules}
-use Rattle.std.proofs.Common.{sym, ap, rules}
+use Rattle.std.proofs.Common.{rules, sym, ap}
 use Rattle.reply.specs.Result.{answer_of}
 use Rattle.machine.proofs.SampleLoop.{start, go_on, stop, finish}
 use Rattle.machine.proofs.samples.judge.Goals as goal

@@ -1,5 +1,4 @@
 -- `samples::put` meets its contract.
-use Rattle.std.proofs.Common.{arith}
 use Rattle.std.proofs.Common.{arith, length-set}
 use native.Mathlib.Numerals.{unary_clauses}
 use Rattle.machine.proofs.samples.put.Goals as goal

@@ -1,6 +1,5 @@
 -- `transfers::write` meets its contract.
 use Rattle.std.proofs.Common.{arith}
-use Rattle.std.proofs.Common.{arith}
 use Rattle.machine.specs.ActLaws.{write_done}
 use Rattle.machine.proofs.transfers.write.Goals as goal
 

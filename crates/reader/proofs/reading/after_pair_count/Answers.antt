@@ -11,10 +11,10 @@ pub after_pairs-requires : goal.after_pairs-requires
 after_pairs-requires c =
     let w = went _ (pairs_told c.read_pairs-read.ensures) c.if-read.true in
     record {
-      n_bound = search rules;
-      filled = search rules;
-      filled_2 = filled _ _ _ w;
-      rows_value = taken_rows _ _ _ _ (omega arith) _ _ w _ (pairs_rows c.read_pairs-read.ensures w.is);
+      few = search rules;
+      processes_filled = search rules;
+      pairs_filled = filled _ _ _ w;
+      rows_of_pairs = taken_rows _ _ _ _ (omega arith) _ _ w _ (pairs_rows c.read_pairs-read.ensures w.is);
     }
 
 pub returns-then-read : goal.returns-then-read

@@ -7,10 +7,10 @@ pub after_channel_count-requires : goal.after_channel_count-requires
 after_channel_count-requires c =
     let most = ranged_most _ _ _ _ _ _ _ c.in_range.ensures c.in-Value.is in
     record {
-      n_bound = search rules;
-      filled = search rules;
-      filled_2 = search rules;
-      rows_value = search rules;
+      few = search rules;
+      processes_filled = search rules;
+      pairs_filled = search rules;
+      rows_of_pairs = search rules;
     }
 
 pub returns-in-Value : goal.returns-in-Value

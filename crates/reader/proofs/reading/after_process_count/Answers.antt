@@ -2,8 +2,8 @@
 use Rattle.reader.proofs.Tails.{went, process_stop, filled, processes_told, frame_fits, frame_large}
 use Rattle.reader.proofs.reading.after_process_count.Goals as goal
 
-pub after_processes-requires-clause-filled : goal.after_processes-requires-clause-filled
-after_processes-requires-clause-filled c = filled _ _ _ (went _ (processes_told c.read_processes-read.ensures) c.if-read.true)
+pub after_processes-requires-clause-processes_filled : goal.after_processes-requires-clause-processes_filled
+after_processes-requires-clause-processes_filled c = filled _ _ _ (went _ (processes_told c.read_processes-read.ensures) c.if-read.true)
 
 pub returns-then-fits_frame : goal.returns-then-fits_frame
 returns-then-fits_frame c = frame_fits _ _ _ _ _ (went _ (processes_told c.read_processes-read.ensures) c.if-read.true) _ c.fits_frame.ensures _ c.if-fits_frame.true c.after_processes.ensures

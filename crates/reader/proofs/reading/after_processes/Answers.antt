@@ -7,8 +7,8 @@ pub after_pair_count-requires : goal.after_pair_count-requires
 after_pair_count-requires c =
     let most = ranged_most _ _ _ _ _ _ _ c.in_range.ensures c.in-Value.is in
     record {
-      n_bound = search rules;
-      filled = search rules;
+      few = search rules;
+      processes_filled = search rules;
     }
 
 pub returns-in-Value : goal.returns-in-Value

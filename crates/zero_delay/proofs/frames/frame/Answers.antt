@@ -3,7 +3,7 @@ use Rattle.zero_delay.proofs.FrameLoop.{process_small, count_small, start, runs,
 use Rattle.zero_delay.proofs.frames.frame.Goals as goal
 
 pub loop-j-init : goal.loop-j-init
-loop-j-init c = start c.requires.ready c.requires.jobs_in_bounds.2 c.requires.jobs_in_bounds.3
+loop-j-init c = start c.requires.ready c.requires.room.2 c.requires.room.3
 
 pub bounds-processes-j : goal.bounds-processes-j
 bounds-processes-j c = omega (arith, c.requires.ready.few)
@@ -24,7 +24,7 @@ pub job-gives-requires : goal.job-gives-requires
 job-gives-requires c = runs c.requires.ready c.loop-j.invariant c.loop-j-test.true
 
 pub put-requires : goal.put-requires
-put-requires c = omega (arith, c.requires.jobs_in_bounds.1, c.loop-j.invariant.size)
+put-requires c = omega (arith, c.requires.room.1, c.loop-j.invariant.size)
 
 pub loop-j-preserved : goal.loop-j-preserved
 loop-j-preserved c = turn c.requires.ready c.loop-j.invariant c.loop-j-test.true c.get-sample.ensures c.job-gives.ensures c.put.ensures

@@ -49,7 +49,7 @@ frame-requires c =
     let on = c.loop-f-test.true in
     record {
       ready = c.requires.ready;
-      jobs_in_bounds = (
+      room = (
         part_long _ _ _ _ (width_is _ _) (in_input c.requires.ready c.requires.frames_ready to on),
         part_long _ _ _ _ (width_is _ _) (in_output c.requires.ready c.requires.frames_ready to on),
         to.sound,
