@@ -1,7 +1,9 @@
 // Network files, read and written: network K and small files, each at an edge of the rules.
-use crate::longest;
+ghost use Rattle.std.specs.Prelude.{◌≤◌};
+
+use crate::{k, longest};
 use network::Network;
-use shown::{K, files, print};
+use shown::{K, files};
 use std::io;
 
 pub fn run(rt: &impl Print) -> io::Result<()> {
@@ -16,32 +18,27 @@ pub fn run(rt: &impl Print) -> io::Result<()> {
 }
 
 fn whole_files(rt: &impl Print) -> io::Result<()> {
-    files::read(rt, b"an empty file", b"")?;
-    let k = K;
-    files::read(rt, b"network K", &k)?;
-    files::read(
-        rt,
-        b"K and one byte",
-        b"\x01\x03\x14\x01\x14\x03\x0A\x01\x0A\x04\x14\x01\x14\x06\x02\x00\x01\x01\x02\x02\x00\x00\x01\x02\x01\x01\x02\x01\x03\x05\x00\x01\x00\x07\x01\x01\x00\x04\x00\x00\x00\x03\x03\x00\x00\x01\x07\x01\x01\x00\x04\x01\x00\x00\x03\x03\x01\x00\x01\x07\x01\x01\x00\x06\x00\x00\x00\x00",
-    )
+    files::read(rt, "an empty file", b"")?;
+    files::read(rt, "network K", &K)?;
+    files::read(rt, "K and one byte", &k::and_a_byte())
 }
 
 fn numbers(rt: &impl Print) -> io::Result<()> {
-    files::read(rt, b"version 2", b"\x02")?;
+    files::read(rt, "version 2", b"\x02")?;
     files::read(
         rt,
-        b"a deadline with a zero last group",
+        "a deadline with a zero last group",
         b"\x01\x01\x0A\x01\x80\x00",
     )?;
     files::read(
         rt,
-        b"a file that ends in a budget",
+        "a file that ends in a budget",
         b"\x01\x01\x0A\x01\x0A\x80",
     )?;
-    files::read(rt, b"13 processes", b"\x01\x0D")?;
+    files::read(rt, "13 processes", b"\x01\x0D")?;
     files::read(
         rt,
-        b"a deadline beyond the period",
+        "a deadline beyond the period",
         b"\x01\x01\x0A\x01\x0B\x01",
     )
 }
@@ -49,18 +46,18 @@ fn numbers(rt: &impl Print) -> io::Result<()> {
 fn pairs(rt: &impl Print) -> io::Result<()> {
     files::read(
         rt,
-        b"a pair with a process that is not there",
+        "a pair with a process that is not there",
         b"\x01\x02\x0A\x01\x0A\x01\x0A\x01\x0A\x01\x01\x00\x02",
     )?;
     files::read(
         rt,
-        b"a repeated pair",
+        "a repeated pair",
         b"\x01\x02\x0A\x01\x0A\x01\x0A\x01\x0A\x01\x02\x00\x01\x00\x01",
     )?;
     // Not a repeated pair but a cycle, found before the channel count is missed.
     files::read(
         rt,
-        b"a reversed pair, and no channel count",
+        "a reversed pair, and no channel count",
         b"\x01\x02\x0A\x01\x0A\x01\x0A\x01\x0A\x01\x02\x00\x01\x01\x00",
     )
 }
@@ -69,94 +66,81 @@ fn channels(rt: &impl Print) -> io::Result<()> {
     // Its writer takes five bytes; the capacity is judged before the ends.
     files::read(
         rt,
-        b"capacity 9 after a five-byte end",
+        "capacity 9 after a five-byte end",
         b"\x01\x02\x0A\x01\x0A\x01\x0A\x01\x0A\x01\x01\x00\x01\x01\x00\xFF\xFF\xFF\xFF\x0F\x01\x09",
     )?;
     files::read(
         rt,
-        b"capacity 8 after a five-byte end",
+        "capacity 8 after a five-byte end",
         b"\x01\x02\x0A\x01\x0A\x01\x0A\x01\x0A\x01\x01\x00\x01\x01\x00\xFF\xFF\xFF\xFF\x0F\x01\x08",
     )?;
     files::read(
         rt,
-        b"a board with capacity 2",
+        "a board with capacity 2",
         b"\x01\x02\x0A\x01\x0A\x01\x0A\x01\x0A\x01\x01\x00\x01\x01\x01\x00\x01\x02",
     )?;
     // Pairs 0-1 and 1-2; a chain leads from 0 to 2, but they have no pair of their own.
     files::read(
         rt,
-        b"a channel whose ends have only a chain",
+        "a channel whose ends have only a chain",
         b"\x01\x03\x0A\x01\x0A\x01\x0A\x01\x0A\x01\x0A\x01\x0A\x01\x02\x00\x01\x01\x02\x01\x00\x00\x02\x01",
     )?;
     // A channel against the direction of its pair is a channel.
     files::read(
         rt,
-        b"a channel against its pair",
+        "a channel against its pair",
         b"\x01\x02\x0A\x01\x0A\x01\x0A\x01\x0A\x01\x01\x00\x01\x01\x00\x01\x00\x08\x00\x00",
     )
 }
 
 fn actions(rt: &impl Print) -> io::Result<()> {
     // K's own skips reach the very end.
-    let mut past = K;
-    past[35] = 2;
-    files::read(rt, b"K with a skip one past the end", &past)?;
-    let mut reader = K;
-    reader[43] = 1;
+    files::read(rt, "K with a skip one past the end", &k::with(35, 2))?;
     files::read(
         rt,
-        b"K with a read of a channel that the process writes",
-        &reader,
+        "K with a read of a channel that the process writes",
+        &k::with(43, 1),
     )?;
-    let mut operand = K;
-    operand[66] = 1;
-    files::read(rt, b"K with a 1 for a 0 in its last action", &operand)?;
-    let mut unknown = K;
-    unknown[63] = 8;
-    files::read(rt, b"K with an action 8", &unknown)
+    files::read(rt, "K with a 1 for a 0 in its last action", &k::with(66, 1))?;
+    files::read(rt, "K with an action 8", &k::with(63, 8))
 }
 
 fn frames(rt: &impl Print) -> io::Result<()> {
     // Refused before the pair count is missed.
     files::read(
         rt,
-        b"periods 999 and 1000, and no pair count",
+        "periods 999 and 1000, and no pair count",
         b"\x01\x02\xE7\x07\x01\x01\x01\xE8\x07\x01\x01\x01",
     )?;
     files::read(
         rt,
-        b"periods 1000 and 80: a frame of 2000",
+        "periods 1000 and 80: a frame of 2000",
         b"\x01\x02\xE8\x07\x01\x01\x01\x50\x01\x01\x01\x00\x00\x00\x00",
     )?;
     files::read(
         rt,
-        b"periods 33 and 1, burst 4: 133 jobs",
+        "periods 33 and 1, burst 4: 133 jobs",
         b"\x01\x02\x21\x01\x01\x01\x01\x04\x01\x01",
     )?;
     files::read(
         rt,
-        b"period 1, burst 4: 4 jobs",
+        "period 1, burst 4: 4 jobs",
         b"\x01\x01\x01\x04\x01\x01\x00\x00\x00",
     )
 }
 
 // Network K as it is read and written again.
 fn written(rt: &impl Print) -> io::Result<()> {
-    let k = K;
-    let loaded = reader::read(&k);
-    let net = loaded.network;
+    let net = reader::read(&K).network;
     lengths(rt, net)?;
     garbage(rt, net)?;
     refused(rt, net)
 }
 
 fn lengths(rt: &impl Print, net: Network) -> io::Result<()> {
-    let mut exact = [0xEEu8; 67];
-    files::write(rt, b"K into 67 bytes", net, &mut exact)?;
-    let mut long = [0xEEu8; 70];
-    files::write(rt, b"K into 70 bytes", net, &mut long)?;
-    let mut short = [0xEEu8; 66];
-    files::write(rt, b"K into 66 bytes", net, &mut short)
+    into::<67>(rt, "K into 67 bytes", net)?;
+    into::<70>(rt, "K into 70 bytes", net)?;
+    into::<66>(rt, "K into 66 bytes", net)
 }
 
 fn garbage(rt: &impl Print, net: Network) -> io::Result<()> {
@@ -168,33 +152,33 @@ fn garbage(rt: &impl Print, net: Network) -> io::Result<()> {
     past.actions[12] = 7;
     past.actions[1151] = 7;
     let mut same = [0xEEu8; 67];
-    files::write(rt, b"K with garbage past its counts", past, &mut same)?;
-    let k = K;
-    if same == k {
-        print::text(rt, b"which are the bytes of K\n")?;
+    files::write(rt, "K with garbage past its counts", past, &mut same)?;
+    if same == K {
+        println!(rt; "which are the bytes of K")?;
     }
     Ok(())
 }
 
 // Fields that the writer refuses, at the places that the file would have.
 fn refused(rt: &impl Print, net: Network) -> io::Result<()> {
-    let mut out = [0xEEu8; 67];
     let mut many = net;
     many.process_count = 13;
-    files::write(rt, b"K with 13 processes", many, &mut out)?;
+    into::<67>(rt, "K with 13 processes", many)?;
     let mut none = net;
     none.process_count = 0;
-    files::write(rt, b"K with no process", none, &mut out)?;
+    into::<67>(rt, "K with no process", none)?;
     let mut capacity = net;
-    capacity.channels[0].writer = 4_294_967_295;
+    capacity.channels[0].writer = u32::MAX;
     capacity.channels[0].capacity = 9;
-    files::write(
-        rt,
-        b"K with capacity 9 after a five-byte end",
-        capacity,
-        &mut out,
-    )?;
+    into::<67>(rt, "K with capacity 9 after a five-byte end", capacity)?;
     let mut kind = net;
     kind.actions[0] = 8;
-    files::write(rt, b"K with an action 8 first", kind, &mut out)
+    into::<67>(rt, "K with an action 8 first", kind)
+}
+
+// A network written into N lent bytes.
+fn into<const N: usize>(rt: &impl Print, label: &str, net: Network) -> io::Result<()>
+    requires { N ≤ 4096 }
+{
+    files::write(rt, label, net, &mut [0xEEu8; N])
 }

@@ -1,26 +1,26 @@
 // Listings of network files. Bytes that are not filled stay dots.
+ghost use Rattle.std.specs.Prelude.{◌≤◌};
+
+use crate::k;
 use shown::{K, listings};
 use std::io;
 
 pub fn run(rt: &impl Print) -> io::Result<()> {
-    let k = K;
-    let mut exact = [46u8; 86];
-    listings::show(rt, b"K listed into 86 bytes", &k, &mut exact)?;
-    let mut long = [46u8; 90];
-    listings::show(rt, b"K listed into 90 bytes", &k, &mut long)?;
-    let mut short = [46u8; 85];
-    listings::show(rt, b"K listed into 85 bytes", &k, &mut short)?;
-    listings::show(
-        rt,
-        b"K and one byte listed",
-        b"\x01\x03\x14\x01\x14\x03\x0A\x01\x0A\x04\x14\x01\x14\x06\x02\x00\x01\x01\x02\x02\x00\x00\x01\x02\x01\x01\x02\x01\x03\x05\x00\x01\x00\x07\x01\x01\x00\x04\x00\x00\x00\x03\x03\x00\x00\x01\x07\x01\x01\x00\x04\x01\x00\x00\x03\x03\x01\x00\x01\x07\x01\x01\x00\x06\x00\x00\x00\x00",
-        &mut short,
-    )?;
+    into::<86>(rt, "K listed into 86 bytes", &K)?;
+    into::<90>(rt, "K listed into 90 bytes", &K)?;
+    into::<85>(rt, "K listed into 85 bytes", &K)?;
+    into::<85>(rt, "K and one byte listed", &k::and_a_byte())?;
     // 19 whatever is lent, for then there is no text.
-    listings::show(
+    into::<0>(
         rt,
-        b"three unrelated processes of budget 6 listed",
+        "three unrelated processes of budget 6 listed",
         b"\x01\x03\x0A\x01\x0A\x06\x0A\x01\x0A\x06\x0A\x01\x0A\x06\x00\x00\x00\x00\x00",
-        &mut [],
     )
+}
+
+// A listing into N lent bytes.
+fn into<const N: usize>(rt: &impl Print, label: &str, file: &[u8]) -> io::Result<()>
+    requires { N ≤ 4096 }
+{
+    listings::show(rt, label, file, &mut [b'.'; N])
 }

@@ -1,21 +1,20 @@
 // The longest file: 12 processes, 66 pairs, 16 channels and 24 actions each, every number as long as it can be.
 use network::{Channel, Network, Pair, Process};
 use shown::files;
-use std::io;
+use std::{array, io};
 
 pub fn run(rt: &impl Print) -> io::Result<()> {
-    let longest = network_of();
     let mut file = [0u8; 2600];
     files::write(
         rt,
-        b"the longest network into 2600 bytes",
-        longest,
+        "the longest network into 2600 bytes",
+        longest(),
         &mut file,
     )?;
-    files::read(rt, b"the longest file", &file)
+    files::read(rt, "the longest file", &file)
 }
 
-fn network_of() -> Network {
+fn longest() -> Network {
     let processes = [Process {
         period: 1000,
         burst: 1,
@@ -42,20 +41,12 @@ fn network_of() -> Network {
     }
 }
 
-fn no_pairs() -> [Pair; 66] {
-    [Pair {
-        higher: 0,
-        lower: 0,
-    }; 66]
-}
-
-fn no_actions() -> [u32; 1152] {
-    [0; 1152]
-}
-
 // Each process before all that have a higher number.
 fn all_pairs() -> [Pair; 66] {
-    let mut pairs = no_pairs();
+    let mut pairs = [Pair {
+        higher: 0,
+        lower: 0,
+    }; 66];
     let mut higher = 0;
     let mut lower = 1;
     for pair in &mut pairs {
@@ -72,14 +63,9 @@ fn all_pairs() -> [Pair; 66] {
 
 // Variable 7 becomes 4,294,967,295, over and over.
 fn all_actions() -> [u32; 1152] {
-    let mut actions = no_actions();
-    for (i, number) in actions.iter_mut().enumerate() {
-        if i % 4 == 1 {
-            *number = 7;
-        }
-        if i % 4 == 2 {
-            *number = 4_294_967_295;
-        }
-    }
-    actions
+    array::from_fn(|i| match i % 4 {
+        1 => 7,
+        2 => u32::MAX,
+        _ => 0,
+    })
 }

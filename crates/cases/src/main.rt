@@ -4,6 +4,7 @@
 
 mod files;
 mod graphs;
+mod k;
 mod lent;
 mod listings;
 mod longest;

@@ -14,10 +14,16 @@ ghost use Rattle.promises.specs.Turns.{turn_call};
 ghost use Rattle.turns.specs.Turned.{turned_of, turn_filled};
 ghost use Rattle.fppn.specs.Answers.{loaded_from, written_from, graph_from, ran_from, turned_from, answer_from, listed_from};
 
-use graph::columns;
+use graph::{PrecedenceGraph, columns};
+use listing::Listed;
 use machine::Held;
 use marks::Row;
-use network::Network;
+use network::{Loaded, Network, Written};
+use reply::Answer;
+use turns::TurnRan;
+use zero_delay::Ran;
+
+// Kept: the structs are flat, and a reply is its number, for C and Rust read them so.
 
 // The network of a file, all zero when it is refused.
 #[repr(C)]
@@ -28,6 +34,19 @@ pub struct FppnLoaded {
     pub network: Network,
 }
 
+impl From<Loaded> for FppnLoaded {
+    ghost from_gives = { λ loaded given. given ≡ loaded_from loaded };
+
+    #[tactic(auto, unfolding(crate::specs::Answers::loaded_from))]
+    fn from(loaded: Loaded) -> FppnLoaded {
+        FppnLoaded {
+            reply: u32::from(loaded.answer.reply),
+            place: loaded.answer.place,
+            network: loaded.network,
+        }
+    }
+}
+
 // How many bytes were written.
 #[repr(C)]
 #[derive(Clone, Copy)]
@@ -35,6 +54,19 @@ pub struct FppnWritten {
     pub reply: u32,
     pub place: usize,
     pub length: usize,
+}
+
+impl From<Written> for FppnWritten {
+    ghost from_gives = { λ written given. given ≡ written_from written };
+
+    #[tactic(auto, unfolding(crate::specs::Answers::written_from))]
+    fn from(written: Written) -> FppnWritten {
+        FppnWritten {
+            reply: u32::from(written.answer.reply),
+            place: written.answer.place,
+            length: written.length,
+        }
+    }
 }
 
 // The precedence graph: how many jobs there are, the frame's length, how many edges stay; of each job its process, release, deadline and budget;
@@ -54,6 +86,30 @@ pub struct FppnGraphResult {
     pub rows: [Row; 128],
 }
 
+impl From<PrecedenceGraph> for FppnGraphResult {
+    ghost from_gives = { λ graph given. given ≡ graph_from graph };
+
+    fn from(graph: PrecedenceGraph) -> FppnGraphResult {
+        let process = columns::processes(graph.jobs);
+        let release = columns::releases(graph.jobs);
+        let deadline = columns::deadlines(graph.jobs);
+        let budget = columns::budgets(graph.jobs);
+        let rows = graph.rows;
+        FppnGraphResult {
+            reply: u32::from(graph.answer.reply),
+            place: graph.answer.place,
+            jobs: graph.job_count,
+            frame: graph.frame,
+            edges: graph.edges,
+            process,
+            release,
+            deadline,
+            budget,
+            rows,
+        }
+    }
+}
+
 // The variables after a run, and what the channels hold.
 #[repr(C)]
 #[derive(Clone, Copy)]
@@ -62,6 +118,22 @@ pub struct FppnRan {
     pub place: usize,
     pub variables: [u32; 96],
     pub channels: [Held; 16],
+}
+
+impl From<Ran> for FppnRan {
+    ghost from_gives = { λ ran given. given ≡ ran_from ran };
+
+    #[tactic(auto, unfolding(crate::specs::Answers::ran_from))]
+    fn from(ran: Ran) -> FppnRan {
+        let variables = ran.variables;
+        let channels = ran.channels;
+        FppnRan {
+            reply: u32::from(ran.answer.reply),
+            place: ran.answer.place,
+            variables,
+            channels,
+        }
+    }
 }
 
 // A turn run: the frames finished, the jobs finished in the present frame, the turns that worked and that waited; the variables, and what the channels hold.
@@ -78,6 +150,26 @@ pub struct FppnTurned {
     pub channels: [Held; 16],
 }
 
+impl From<TurnRan> for FppnTurned {
+    ghost from_gives = { λ turned given. given ≡ turned_from turned };
+
+    #[tactic(auto, unfolding(crate::specs::Answers::turned_from))]
+    fn from(turned: TurnRan) -> FppnTurned {
+        let variables = turned.variables;
+        let channels = turned.channels;
+        FppnTurned {
+            reply: u32::from(turned.answer.reply),
+            place: turned.answer.place,
+            frames: turned.frames,
+            jobs: turned.jobs,
+            working: turned.working,
+            waiting: turned.waiting,
+            variables,
+            channels,
+        }
+    }
+}
+
 // How many bytes of text were filled.
 #[repr(C)]
 #[derive(Clone, Copy)]
@@ -85,6 +177,19 @@ pub struct FppnListed {
     pub reply: u32,
     pub place: usize,
     pub length: usize,
+}
+
+impl From<Listed> for FppnListed {
+    ghost from_gives = { λ listed given. given ≡ listed_from listed };
+
+    #[tactic(auto, unfolding(crate::specs::Answers::listed_from))]
+    fn from(listed: Listed) -> FppnListed {
+        FppnListed {
+            reply: u32::from(listed.answer.reply),
+            place: listed.answer.place,
+            length: listed.length,
+        }
+    }
 }
 
 // An answer that has no more to tell.
@@ -95,21 +200,24 @@ pub struct FppnAnswer {
     pub place: usize,
 }
 
+impl From<Answer> for FppnAnswer {
+    ghost from_gives = { λ answer given. given ≡ answer_from answer };
+
+    #[tactic(auto, unfolding(crate::specs::Answers::answer_from))]
+    fn from(answer: Answer) -> FppnAnswer {
+        FppnAnswer {
+            reply: u32::from(answer.reply),
+            place: answer.place,
+        }
+    }
+}
+
 // Reads a network file.
 #[unsafe(no_mangle)]
 pub extern "C" fn fppn_read(file: &[u8]) -> FppnLoaded
     ensures { result ≡ loaded_from (read_file file.now) }
 {
-    let loaded = reader::read(file);
-    let network = loaded.network;
-    let answer = loaded.answer;
-    let reply = answer.reply;
-    let number = reply::number(reply);
-    FppnLoaded {
-        reply: number,
-        place: loaded.answer.place,
-        network,
-    }
+    FppnLoaded::from(reader::read(file))
 }
 
 // Writes a network's file to the front of the lent bytes.
@@ -118,14 +226,7 @@ pub extern "C" fn fppn_write(network: Network, out: &mut [u8]) -> FppnWritten
     ensures value { result ≡ written_from (wrote network out.old) }
     ensures out_after { out.new ≡ wrote_to network out.old }
 {
-    let written = writer::write(network, out);
-    let answer = written.answer;
-    let reply = answer.reply;
-    FppnWritten {
-        reply: reply::number(reply),
-        place: written.answer.place,
-        length: written.length,
-    }
+    FppnWritten::from(writer::write(network, out))
 }
 
 // The precedence graph of a file.
@@ -133,27 +234,7 @@ pub extern "C" fn fppn_write(network: Network, out: &mut [u8]) -> FppnWritten
 pub extern "C" fn fppn_graph(file: &[u8]) -> FppnGraphResult
     ensures { result ≡ graph_from (graph_file file.now) }
 {
-    let graph = graph::graph(file);
-    let answer = graph.answer;
-    let reply = answer.reply;
-    let jobs = graph.jobs;
-    let rows = graph.rows;
-    let process = columns::processes(jobs);
-    let release = columns::releases(jobs);
-    let deadline = columns::deadlines(jobs);
-    let budget = columns::budgets(jobs);
-    FppnGraphResult {
-        reply: reply::number(reply),
-        place: graph.answer.place,
-        jobs: graph.job_count,
-        frame: graph.frame,
-        edges: graph.edges,
-        process,
-        release,
-        deadline,
-        budget,
-        rows,
-    }
+    FppnGraphResult::from(graph::graph(file))
 }
 
 // The zero-delay run of a file's network for so many frames.
@@ -167,17 +248,7 @@ pub extern "C" fn fppn_zero_delay(
     ensures value { result ≡ ran_from (ran_of (zero_delay file.now frames input.now output.old)) }
     ensures output_after { output.new ≡ filled_by (zero_delay file.now frames input.now output.old) output.old }
 {
-    let ran = zero_delay::run(file, frames, input, output);
-    let answer = ran.answer;
-    let reply = answer.reply;
-    let variables = ran.variables;
-    let channels = ran.channels;
-    FppnRan {
-        reply: reply::number(reply),
-        place: ran.answer.place,
-        variables,
-        channels,
-    }
+    FppnRan::from(zero_delay::run(file, frames, input, output))
 }
 
 // Plans a file's network: processor and start of each job, from the front of the lent words.
@@ -186,12 +257,7 @@ pub extern "C" fn fppn_plan(file: &[u8], processors: u32, out: &mut [u32]) -> Fp
     ensures value { result ≡ answer_from (answer_of (plan_call file.now processors out.old)) }
     ensures out_after { out.new ≡ plan_filled (plan_call file.now processors out.old) out.old }
 {
-    let planned = plan::plan(file, processors, out);
-    let reply = planned.reply;
-    FppnAnswer {
-        reply: reply::number(reply),
-        place: planned.place,
-    }
+    FppnAnswer::from(plan::plan(file, processors, out))
 }
 
 // Checks a plan of a file's network.
@@ -199,12 +265,7 @@ pub extern "C" fn fppn_plan(file: &[u8], processors: u32, out: &mut [u32]) -> Fp
 pub extern "C" fn fppn_check(file: &[u8], processors: u32, plan: &[u32]) -> FppnAnswer
     ensures { result ≡ answer_from (answer_of (check_call file.now processors plan.now)) }
 {
-    let checked = plan::check(file, processors, plan);
-    let reply = checked.reply;
-    FppnAnswer {
-        reply: reply::number(reply),
-        place: checked.place,
-    }
+    FppnAnswer::from(plan::check(file, processors, plan))
 }
 
 // The turn run of a file's network for so many frames, by a plan and a list of turns.
@@ -221,21 +282,7 @@ pub extern "C" fn fppn_turns(
     ensures value { result ≡ turned_from (turned_of (turn_call file.now processors frames plan.now input.now turns.now output.old)) }
     ensures output_after { output.new ≡ turn_filled (turn_call file.now processors frames plan.now input.now turns.now output.old) output.old }
 {
-    let turned = turns::run(file, processors, frames, plan, input, turns, output);
-    let answer = turned.answer;
-    let reply = answer.reply;
-    let variables = turned.variables;
-    let channels = turned.channels;
-    FppnTurned {
-        reply: reply::number(reply),
-        place: turned.answer.place,
-        frames: turned.frames,
-        jobs: turned.jobs,
-        working: turned.working,
-        waiting: turned.waiting,
-        variables,
-        channels,
-    }
+    FppnTurned::from(turns::run(file, processors, frames, plan, input, turns, output))
 }
 
 // The timed run of a file's network on a plan, with a duration for each job: start and end of each job, from the front of the lent words.
@@ -250,12 +297,7 @@ pub extern "C" fn fppn_timed(
     ensures value { result ≡ answer_from (answer_of (timed_call file.now processors plan.now durations.now out.old)) }
     ensures out_after { out.new ≡ timed_filled (timed_call file.now processors plan.now durations.now out.old) out.old }
 {
-    let told = timed::run(file, processors, plan, durations, out);
-    let reply = told.reply;
-    FppnAnswer {
-        reply: reply::number(reply),
-        place: told.place,
-    }
+    FppnAnswer::from(timed::run(file, processors, plan, durations, out))
 }
 
 // The lister's text of a file, planned for two processors, to the front of the lent bytes.
@@ -264,12 +306,5 @@ pub extern "C" fn fppn_list(file: &[u8], out: &mut [u8]) -> FppnListed
     ensures value { result ≡ listed_from (listed_of (list_call file.now out.old)) }
     ensures out_after { out.new ≡ list_filled (list_call file.now out.old) out.old }
 {
-    let listed = listing::list(file, out);
-    let answer = listed.answer;
-    let reply = answer.reply;
-    FppnListed {
-        reply: reply::number(reply),
-        place: listed.answer.place,
-        length: listed.length,
-    }
+    FppnListed::from(listing::list(file, out))
 }

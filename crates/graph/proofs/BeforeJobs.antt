@@ -2,7 +2,7 @@
 use Prim.Native.Nat.{ℕ, suc, ◌+◌, ◌≤◌, ◌<◌}
 use mathlib.Core.Path.{◌≡◌, refl, sym, ap, ap₂, subst, ◌∙◌}
 use mathlib.Core.Bool.{Bool, true, false, not, ◌&&◌, ◌||◌}
-use mathlib.Core.List.{List}
+use mathlib.Core.List.{List, []}
 use native.Mathlib.Decide.{dec_lt, ℕ_discrete}
 use native.Mathlib.Numerals.{add-one}
 use native.Mathlib.Omega.{arith}
@@ -16,7 +16,8 @@ use Rattle.reply.specs.AllAny.{any_zero, any_suc, any_true, any_make, any_none}
 use Rattle.marks.specs.Row.{marked, row_of, no_marks, with_of, or_of, without_of}
 use Rattle.marks.specs.Laws.{marked_row, marked_none, marked_with, marked_without, fit_none, fit_without, row_is, rows_same}
 use Rattle.marks.specs.declared.Row.{Row}
-use Rattle.network.specs.Lists.{table, fill_to}
+use Rattle.network.specs.Lists.{fill_to}
+use Rattle.network.specs.ListLaws.{fill_none, fill_at}
 use Rattle.network.specs.Chains.{Relation, holds, relation}
 use Rattle.network.specs.ChainLaws.{relation_holds, relation_within}
 use Rattle.network.specs.ChainsSame.{table_same}
@@ -27,7 +28,7 @@ use Rattle.graph.specs.Graph.{rows_from, rows_to}
 use Rattle.graph.specs.PrecedenceTold.{JobsTold, JobsOf, is_relative, with_jobs_of, jobs_related, RelatedRows}
 use Rattle.graph.specs.declared.Job.{Job}
 use Rattle.graph.proofs.RelativeMarks.{one_more, no_more}
-use Rattle.graph.proofs.Stores.{stores_begin, stores_go_on}
+use Rattle.graph.proofs.Descendants.{StoredFrom, stored_ends}
 
 or_false : (b : Bool) → (b || false) ≡ b
 or_false true = refl
@@ -37,13 +38,6 @@ or_false false = refl
 
 abbrev process_of : List Job → ℕ → ℕ
 process_of jobs j = (job_of jobs j).process
-
-pub told_wide : (n count : ℕ) (jobs : List Job) → JobsTold n count jobs → JobsTold 12 count jobs
-told_wide n count jobs told = record {
-  few_processes = omega arith;
-  few_jobs = told.few_jobs;
-  processes = λ j h. omega (arith, told.processes j h, told.few_processes);
-}
 
 -- row q marks the jobs of process q below j
 pub record JobsSoFar (jobs : List Job) (j : ℕ) (rows : List Row) : Type 0 where
@@ -81,9 +75,6 @@ module _ (jobs : List Job) where
     pub jobs_go_on : (row : Row) → row ≡ with_of (get_or rows (process_of jobs j) no_marks) j → JobsSoFar jobs (j + 1) (set rows (process_of jobs j) row)
     jobs_go_on row e = record { size = length-set rows (process_of jobs j) row ∙ s.size; marks = rw e marks_more }
 
-  pub jobs_end : (count j : ℕ) (rows : List Row) → j ≤ count → count ≤ j → JobsSoFar jobs j rows → JobsOf count jobs rows
-  jobs_end count j rows h l s = let z : count ≡ j = omega arith in record { marks = rw z s.marks }
-
 -- ---- the jobs of relatives
 
 -- those of the relatives of p below q
@@ -116,32 +107,20 @@ module _ (jobs ahead : List Row) (p : ℕ) where
     is = rw (add-one q) (e ∙ ap (with_jobs_of (get_or ahead q no_marks) (get_or ahead p no_marks) p q (get_or jobs q no_marks)) s.is ∙ one_process_lem q);
   }
 
-  pub joined_end : (n q : ℕ) (row : Row) → q ≤ n → n ≤ q → JoinedSoFar jobs ahead p q row → row ≡ jobs_related n jobs ahead p
-  joined_end n q row h l s = s.is ∙ ap (λ (m : ℕ). jobs_related m jobs ahead p) (omega arith)
+  pub joined_with : (q : ℕ) (row new : Row) (t : Bool) → JoinedSoFar jobs ahead p q row → t ≡ is_relative (get_or ahead q no_marks) (get_or ahead p no_marks) p q → t ≡ true
+      → new ≡ or_of row (get_or jobs q no_marks) → JoinedSoFar jobs ahead p (q + 1) new
+  unfolding with_jobs_of
+  joined_with q row new t s e y n = joined_go_on q row new s (n ∙ sym (rw (sym e ∙ y) refl))
+
+  pub joined_without : (q : ℕ) (row : Row) (t : Bool) → JoinedSoFar jobs ahead p q row → t ≡ is_relative (get_or ahead q no_marks) (get_or ahead p no_marks) p q → t ≡ false
+      → JoinedSoFar jobs ahead p (q + 1) row
+  unfolding with_jobs_of
+  joined_without q row t s e y = joined_go_on q row row s (sym (rw (sym e ∙ y) refl))
 
 -- the rows below p are done
 pub record RelatedSoFar (n : ℕ) (jobs ahead : List Row) (p : ℕ) (rows : List Row) : Type 0 where
   pub size : length rows ≡ length jobs
   pub done : (i : ℕ) → i < p → get_or rows i no_marks ≡ jobs_related n jobs ahead i
-
-module _ (n : ℕ) (jobs ahead : List Row) where
-  pub related_begin : RelatedSoFar n jobs ahead 0 jobs
-  related_begin = record { size = refl; done = λ i h. absurd (omega arith) }
-
-  pub related_go_on : (p : ℕ) (rows : List Row) (row : Row) → p < length jobs → RelatedSoFar n jobs ahead p rows → row ≡ jobs_related n jobs ahead p
-      → RelatedSoFar n jobs ahead (p + 1) (set rows p row)
-  related_go_on p rows row h s e = record {
-    size = length-set rows p row ∙ s.size;
-    done = λ i l. elim (ℕ_discrete i p) [
-      | yes z ↦
-          subst (λ x. get_or (set rows p row) x no_marks ≡ jobs_related n jobs ahead x) (sym z)
-          (get_or-set_same rows p row no_marks (omega (arith, s.size)) ∙ e)
-      | no d ↦ get_or-set_other rows p i row no_marks d ∙ s.done i (omega arith)
-    ];
-  }
-
-  pub related_end : (p : ℕ) (rows : List Row) → n ≤ p → RelatedSoFar n jobs ahead p rows → RelatedRows n jobs ahead rows
-  related_end p rows h s = record { row = λ i l. s.done i (omega arith) }
 
 -- ---- the rows
 
@@ -155,11 +134,6 @@ row_before all jobs j = row_of (λ i. ltb i j && marked (get_or all (process_of 
 -- and what it marks after j
 abbrev row_after : List Row → List Job → ℕ → Row
 row_after all jobs j = row_of (λ i. marked (get_or all (process_of jobs j) no_marks) i && not (ltb i (j + 1)))
-
--- the jobs below j are seen, and the rows below j are done
-pub record AfterSoFar (all : List Row) (jobs : List Job) (j : ℕ) (seen : Row) (rows : List Row) : Type 0 where
-  pub marks : (i : ℕ) → marked seen i ≡ ltb i j
-  pub done : rows ≡ fill_to 128 no_marks (table j (row_after all jobs))
 
 not_below : (j i : ℕ) → not (ltb i (j + 1)) ≡ ltb j i
 not_below j i = elim (dec_lt j i) [
@@ -183,57 +157,56 @@ marks_next j passed few marks i = marked_with passed j few i ∙ ap (λ (b : Boo
     ]
 
 -- the jobs below j are passed, and the rows below j are done
-pub record BeforeSoFar (all : List Row) (jobs : List Job) (j : ℕ) (passed : Row) (rows : List Row) : Type 0 where
+pub record PartsSoFar (step : Row → Row → ℕ → Row → Type 0) (all : List Row) (jobs : List Job) (j : ℕ) (passed : Row) (rows : List Row) : Type 0 where
   pub marks : (i : ℕ) → marked passed i ≡ ltb i j
-  pub done : rows ≡ fill_to 128 no_marks (table j (row_before all jobs))
+  pub size : length rows ≡ 128
+  pub each : (k : ℕ) → k < j → (before : Row) × ((i : ℕ) → marked before i ≡ ltb i k) × step (get_or all (process_of jobs k) no_marks) before k (get_or rows k no_marks)
+  pub past : (k : ℕ) → j ≤ k → get_or rows k no_marks ≡ no_marks
+
+module _ (step : Row → Row → ℕ → Row → Type 0) (all : List Row) (jobs : List Job) where
+  pub parts_begin : (passed none : Row) → passed ≡ no_marks → none ≡ no_marks → PartsSoFar step all jobs 0 passed (replicate 128 none)
+  parts_begin passed none e d = record {
+    marks = λ i. ap (λ (r : Row). marked r i) e ∙ marked_none i ∙ sym (le-ltb i 0 (omega arith));
+    size = length-replicate 128 none;
+    each = λ k h. absurd (omega arith);
+    past = λ k h. ap (λ (l : List Row). get_or l k no_marks) (ap (λ (r : Row). replicate 128 r) d ∙ sym (fill_none 128 no_marks)) ∙ fill_at 128 no_marks [] k;
+  }
+
+  pub parts_go_on : (j : ℕ) → j < 128 → (passed : Row) (rows : List Row) → PartsSoFar step all jobs j passed rows → (new row : Row) → new ≡ with_of passed j
+      → step (get_or all (process_of jobs j) no_marks) passed j row → PartsSoFar step all jobs (j + 1) new (set rows j row)
+  parts_go_on j few passed rows s new row e p = record {
+    marks = λ i. ap (λ (r : Row). marked r i) e ∙ marks_next j passed few s.marks i;
+    size = length-set rows j row ∙ s.size;
+    each = λ k h. elim (ℕ_discrete k j) [
+      | yes z ↦ rw z (passed, s.marks, subst (λ r. step (get_or all (process_of jobs j) no_marks) passed j r) (sym (get_or-set_same rows j row no_marks (omega (arith, s.size)))) p)
+      | no d ↦
+          let (before, marks, q) = s.each k (omega arith) in
+          (before, marks, subst (λ r. step (get_or all (process_of jobs k) no_marks) before k r) (sym (get_or-set_other rows j k row no_marks d)) q)
+    ];
+    past = λ k h. get_or-set_other rows j k row no_marks (λ z. omega arith) ∙ s.past k (omega arith);
+  }
 
 module _ (all : List Row) (jobs : List Job) where
-  pub before_begin : (passed : Row) (rows : List Row) → passed ≡ no_marks → rows ≡ replicate 128 no_marks → BeforeSoFar all jobs 0 passed rows
-  before_begin passed rows e d = record {
-    marks = λ i. ap (λ (r : Row). marked r i) e ∙ marked_none i ∙ sym (le-ltb i 0 (omega arith));
-    done = d ∙ stores_begin (row_before all jobs);
-  }
+  -- without what is not passed a row has what is passed
+  pub before_part : (j : ℕ) (row passed before : Row) → ((i : ℕ) → marked passed i ≡ ltb i j) → row ≡ get_or all (process_of jobs j) no_marks
+      → before ≡ without_of row (without_of row passed) → before ≡ row_before all jobs j
+  before_part j row passed before marks r b = b ∙ row_is (without_of row (without_of row passed)) _ (fit_without row (without_of row passed)) (λ i h.
+      marked_without row (without_of row passed) i
+      ∙ ap (λ (t : Bool). marked row i && not t) (marked_without row passed i)
+      ∙ twice (marked row i) (marked passed i)
+      ∙ ap (λ (t : Bool). t && marked row i) (marks i)
+      ∙ ap (λ (x : Row). ltb i j && marked x i) r)
+    where
+      twice : (a b : Bool) → (a && not (a && not b)) ≡ (b && a)
+      twice true true = refl
+      twice true false = refl
+      twice false true = refl
+      twice false false = refl
 
-  module _ (j : ℕ) (few : j < 128) (passed : Row) (rows : List Row) (s : BeforeSoFar all jobs j passed rows) where
-    -- without what is not passed a row has what is passed
-    passed_only : (row later before : Row) → row ≡ get_or all (process_of jobs j) no_marks → later ≡ without_of row passed → before ≡ without_of row later
-        → before ≡ row_before all jobs j
-    passed_only row later before r l b = b ∙ row_is (without_of row later) _ (fit_without row later) (λ i h.
-        marked_without row later i
-        ∙ ap (λ (x : Row). marked row i && not (marked x i)) l
-        ∙ ap (λ (t : Bool). marked row i && not t) (marked_without row passed i)
-        ∙ twice (marked row i) (marked passed i)
-        ∙ ap (λ (t : Bool). t && marked row i) (s.marks i)
-        ∙ ap (λ (x : Row). ltb i j && marked x i) r)
-      where
-        twice : (a b : Bool) → (a && not (a && not b)) ≡ (b && a)
-        twice true true = refl
-        twice true false = refl
-        twice false true = refl
-        twice false false = refl
-
-    pub before_go_on : (row later before new : Row) → row ≡ get_or all (process_of jobs j) no_marks → later ≡ without_of row passed → before ≡ without_of row later
-        → new ≡ with_of passed j → BeforeSoFar all jobs (j + 1) new (set rows j before)
-    before_go_on row later before new r l b e = record {
-      marks = rw e (marks_next j passed few s.marks);
-      done = stores_go_on (row_before all jobs) j rows before few s.done (passed_only row later before r l b);
-    }
-
-  pub after_begin : (seen : Row) (rows : List Row) → seen ≡ no_marks → rows ≡ replicate 128 no_marks → AfterSoFar all jobs 0 seen rows
-  after_begin seen rows e d = record {
-    marks = λ i. ap (λ (r : Row). marked r i) e ∙ marked_none i ∙ sym (le-ltb i 0 (omega arith));
-    done = d ∙ stores_begin (row_after all jobs);
-  }
-
-  pub after_go_on : (j : ℕ) → j < 128 → (seen : Row) (rows : List Row) → AfterSoFar all jobs j seen rows → (row new later : Row)
-      → row ≡ get_or all (process_of jobs j) no_marks → new ≡ with_of seen j → later ≡ without_of row new → AfterSoFar all jobs (j + 1) new (set rows j later)
-  after_go_on j few seen rows s row new later r e l =
-      let marks : (i : ℕ) → marked new i ≡ ltb i (j + 1) = λ i. ap (λ (x : Row). marked x i) e ∙ marks_next j seen few s.marks i in
-      record {
-        marks = marks;
-        done = stores_go_on (row_after all jobs) j rows later few s.done (l ∙ row_is (without_of row new) _ (fit_without row new) (λ i h.
-            marked_without row new i ∙ ap₂ (λ (x : Row) (t : Bool). marked x i && not t) r (marks i)));
-      }
+  pub after_part : (j : ℕ) → j < 128 → (row passed later : Row) → ((i : ℕ) → marked passed i ≡ ltb i j) → row ≡ get_or all (process_of jobs j) no_marks
+      → later ≡ without_of row (with_of passed j) → later ≡ row_after all jobs j
+  after_part j few row passed later marks r l = l ∙ row_is (without_of row (with_of passed j)) _ (fit_without row (with_of passed j)) (λ i h.
+      marked_without row (with_of passed j) i ∙ ap₂ (λ (x : Row) (t : Bool). marked x i && not t) r (marks_next j passed few marks i))
 
   -- ---- all rows
 
@@ -286,12 +259,11 @@ module _ (all : List Row) (jobs : List Job) where
       | no l ↦ rw (le-ltb i j (omega arith)) (sym (not_before j i h (omega arith)))
     ]
 
-    pub before_end : (j : ℕ) (passed : Row) (rows : List Row) → j ≤ count → count ≤ j → BeforeSoFar all jobs j passed rows
+    pub before_end : (rows : List Row) → StoredFrom count (row_before all jobs) 0 rows
         → rows ≡ fill_to 128 no_marks (rows_to count (relation count (precedes_by (row_relation n ahead) (take count jobs))))
     unfolding rows_to
-    before_end j passed rows h l s =
-        let z : j ≡ count = omega arith in
-        s.done ∙ ap (λ (m : ℕ). fill_to 128 no_marks (table m (row_before all jobs))) z
+    before_end rows s =
+        stored_ends count (row_before all jobs) told.few_jobs 0 rows (omega arith) s
         ∙ ap (λ (l : List Row). fill_to 128 no_marks l) (table_same count (row_before all jobs) _ (λ k b. rows_same _ _ (λ i m. one_row k i b)))
 
     -- ---- the rows the other way
@@ -344,10 +316,9 @@ module _ (all : List Row) (jobs : List Job) where
         turned e false false false true z = rw z
         turned e false false false false z = rw z
 
-    pub after_end : (j : ℕ) (seen : Row) (rows : List Row) → j ≤ count → count ≤ j → AfterSoFar all jobs j seen rows
+    pub after_end : (rows : List Row) → StoredFrom count (row_after all jobs) 0 rows
         → rows ≡ fill_to 128 no_marks (rows_from count (relation count (precedes_by (row_relation n ahead) (take count jobs))))
     unfolding rows_from
-    after_end j seen rows h l s =
-        let z : j ≡ count = omega arith in
-        s.done ∙ ap (λ (m : ℕ). fill_to 128 no_marks (table m (row_after all jobs))) z
+    after_end rows s =
+        stored_ends count (row_after all jobs) told.few_jobs 0 rows (omega arith) s
         ∙ ap (λ (l : List Row). fill_to 128 no_marks l) (table_same count (row_after all jobs) _ (λ k b. rows_same _ _ (λ i m. one_row_after k i b m)))

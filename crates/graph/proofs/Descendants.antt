@@ -22,8 +22,9 @@ use Rattle.network.specs.ChainLaws.{relation_within, chain_join, chains_sound, c
 use Rattle.graph.specs.Order.{row_relation}
 use Rattle.graph.specs.Graph.{reduction_of, rows_from}
 use Rattle.graph.specs.GraphLaws.{Forward, stays_holds, stays_alone, stays_or, chain_onward}
-use Rattle.graph.specs.ReductionTold.{Later, gathered}
+use Rattle.graph.specs.ReductionTold.{Later, ReachesOn, gathered}
 use Rattle.graph.specs.ReductionLaws.{held_forward, row_holds}
+use Rattle.graph.proofs.Gathering.{gathered_few}
 
 -- ---- paths by their first step
 
@@ -111,7 +112,7 @@ module _ (n : ℕ) (f : ℕ → Row) (few : n ≤ 128) where
     past = λ k h. get_or-set_other rows (next - 1) k row no_marks (λ z. omega arith) ∙ s.past k h;
   }
 
-  stored_ends : (next : ℕ) (rows : List Row) → next ≤ 0 → StoredFrom n f next rows → rows ≡ fill_to 128 no_marks (table n f)
+  pub stored_ends : (next : ℕ) (rows : List Row) → next ≤ 0 → StoredFrom n f next rows → rows ≡ fill_to 128 no_marks (table n f)
   stored_ends next rows h s =
       ext_get_or no_marks rows (fill_to 128 no_marks (table n f))
       (s.size ∙ sym (length_fill 128 no_marks (table n f) (omega (arith, length_table n f))))
@@ -143,7 +144,7 @@ module _ (n : ℕ) (after : List Row) (size : n ≤ 128) (later : Later n after)
   reduction_ends next reached edges h s = stored_ends n _ size next edges h s.edges_so_far
 
   module _ (next : ℕ) (reached edges : List Row) (some : 0 < next) (most : next ≤ n) (s : ReducedSoFar n after next reached edges) where
-    pub successor_below : (k : ℕ) → marked (get_or after (next - 1) no_marks) k ≡ true → k < n
+    successor_below : (k : ℕ) → marked (get_or after (next - 1) no_marks) k ≡ true → k < n
     successor_below k t = (later.later (next - 1) k (omega arith) t).1
 
     successor_past : (k : ℕ) → marked (get_or after (next - 1) no_marks) k ≡ true → next ≤ k
@@ -159,9 +160,9 @@ module _ (n : ℕ) (after : List Row) (size : n ≤ 128) (later : Later n after)
     ]
 
     -- what is reached from a reached job is reached
-    pub reached_join : (i : ℕ) → marked (get_or after (next - 1) no_marks) i ≡ true → (k x : ℕ) → i < n → marked (get_or reached i no_marks) k ≡ true
+    joined : (i : ℕ) → marked (get_or after (next - 1) no_marks) i ≡ true → (k x : ℕ) → i < n → marked (get_or reached i no_marks) k ≡ true
         → marked (get_or reached k no_marks) x ≡ true → marked (get_or reached i no_marks) x ≡ true
-    reached_join i t k x l a b =
+    joined i t k x l a b =
         let near : holds (chains n (holds held)) i k ≡ true = marks_path i k (successor_past i t) l a in
         let below : k < n = (paths_within n held forward i k near).1 in
         let on : i < k = chain_onward n held forward (path_of n held forward i k near) in
@@ -170,11 +171,14 @@ module _ (n : ℕ) (after : List Row) (size : n ≤ 128) (later : Later n after)
         let w : x < n = (paths_within n held forward i x p).1 in
         ap (λ (r : Row). marked r x) (reached_row i (successor_past i t) l) ∙ marked_row _ x (omega arith) ∙ p
 
-    module _ (far : Row) (g : far ≡ gathered n reached (get_or after (next - 1) no_marks)) where
+    pub reached_join : ReachesOn reached (get_or after (next - 1) no_marks)
+    reached_join = record { join = λ i k x t a b. joined i t k x (successor_below i t) a b }
+
+    module _ (far : Row) (g : far ≡ gathered 128 reached (get_or after (next - 1) no_marks)) where
       far_marks : (j : ℕ) → j < 128 → marked far j ≡ any n (over n held forward (next - 1) j)
       unfolding gathered
       far_marks j hj =
-          ap (λ (r : Row). marked r j) g
+          ap (λ (r : Row). marked r j) (g ∙ gathered_few n reached (get_or after (next - 1) no_marks) size successor_below)
           ∙ marked_row _ j hj
           ∙ any_same n _ _ (λ k l. split (marked (get_or after (next - 1) no_marks) k)
           (λ t. ap₂ (λ x y. x && y) (row_holds n after later (next - 1) k (omega arith)) (ap (λ (r : Row). marked r j) (reached_row k (successor_past k t) l) ∙ marked_row _ j hj))

@@ -5,7 +5,9 @@ use mathlib.Core.Bool.{Bool, true, false, not, ◌&&◌, ◌||◌}
 use native.Mathlib.Decide.{dec_lt}
 use native.Mathlib.Nat.{one-mul}
 use native.Mathlib.Omega.{arith}
-use lib.Bits.{bit_and, bit_or, bit_xor, and_le_r}
+use Rattle.std.specs.Prelude.{None, Some}
+use lib.Bits.{bit_and, bit_or, bit_xor, and_comm, and_le_l, and_le_r, xor_add_and}
+use Rattle.std.proofs.lemmas.Nat.{and-not, pow_below}
 use lib.Count.{count_trailing_zeros, under}
 use lib.Pow.{shl_exact, shr-shr}
 use lib.Dec.{eqb}
@@ -32,17 +34,21 @@ module _ (word q : ℕ) where
       and_true true = refl
       and_true false = refl
 
-  pub digit_kept : (add : Bool) → add ≡ false → AddsDigit word q add word
-  digit_kept add t = record { digits = λ k. rw t (none (bit word k) (eqb k q)) }
+  -- without a power's digits a word has what it is without those that they share
+  less_is : (m : ℕ) → word < 2 ^ 64 → m < 2 ^ 64 → bit_and word (2 ^ 64 - 1 - m) ≡ bit_xor word (bit_and word m)
+  less_is m f g =
+      let same : bit_and word (bit_and word m) ≡ bit_and word m =
+      word_same 64 (bit_and word (bit_and word m)) (bit_and word m) (omega (arith, and_le_l word (bit_and word m))) (omega (arith, and_le_l word m))
+      (λ i h. bit_and_lem word (bit_and word m) i ∙ ap (λ (b : Bool). bit word i && b) (bit_and_lem word m i) ∙ twice (bit word i) (bit m i) ∙ sym (bit_and_lem word m i)) in
+      omega (arith, same, and-not 64 m word g f, and_comm (2 ^ 64 - 1 - m) word, and_comm m word, xor_add_and word (bit_and word m))
     where
-      none : (a b : Bool) → a ≡ (a || (b && false))
-      none true b = refl
-      none false true = refl
-      none false false = refl
+      twice : (x y : Bool) → (x && (x && y)) ≡ (x && y)
+      twice true y = refl
+      twice false y = refl
 
-  pub digit_taken : q < 64 → TakesDigit word q (bit_xor word (bit_and word (1 * 2 ^ q % 2 ^ 64)))
-  digit_taken h = record {
-    digits = λ k. rw (one_at h) (bit_less word (2 ^ q) k ∙ ap (λ (b : Bool). bit word k && not b) (bit_power q k));
+  pub digit_taken : q < 64 → word < 2 ^ 64 → TakesDigit word q (bit_and word (2 ^ 64 - 1 - 1 * 2 ^ q % 2 ^ 64))
+  digit_taken h f = record {
+    digits = λ k. rw (one_at h, less_is (2 ^ q) f (pow_below q 64 h)) (bit_less word (2 ^ q) k ∙ ap (λ (b : Bool). bit word k && not b) (bit_power q k));
   }
 
 -- ---- the next
@@ -69,15 +75,26 @@ digit_there (suc k) n h = go (digit_there k (n / 2)) (n % 2) refl h
     go half (suc zero) e h = bit_zero n ∙ rw e
     go half (suc (suc r)) e h = absurd (omega arith)
 
-pub next_found : (word at : ℕ) → NextDigit word at (at + count_trailing_zeros 64 (word / 2 ^ at))
-next_found word at = record {
-  from = omega arith;
-  none = λ k h l. ap (bit word) (omega arith) ∙ moved (k - at) ∙ zeros_below 64 (word / 2 ^ at) (k - at) (omega arith);
-  has = λ h. moved (count_trailing_zeros 64 (word / 2 ^ at)) ∙ digit_there 64 (word / 2 ^ at) (omega arith);
-}
-  where
-    moved : (i : ℕ) → bit word (at + i) ≡ bit (word / 2 ^ at) i
-    moved i = sym (ap (λ (x : ℕ). eqb (x % 2) 1) (shr-shr word at i))
+-- the digit that a count of zeros ends at
+pub low_digit : (a : ℕ) → 0 < a → a < 2 ^ 64 → (count_trailing_zeros 64 a < 64) × (bit a (count_trailing_zeros 64 a) ≡ true)
+low_digit a some fits = elim (dec_lt (count_trailing_zeros 64 a) 64) [
+  | yes h ↦ (h, digit_there 64 a h)
+  | no h ↦ let none : a ≡ 0 = word_same 64 a 0 fits (omega arith) (λ i l. zeros_below 64 a i (omega arith) ∙ sym (bit_none i)) in absurd (omega arith)
+]
+
+module _ (word at : ℕ) where
+  moved : (i : ℕ) → bit word (at + i) ≡ bit (word / 2 ^ at) i
+  moved i = sym (ap (λ (x : ℕ). eqb (x % 2) 1) (shr-shr word at i))
+
+  pub next_none : word / 2 ^ at ≡ 0 → NextDigit word at None
+  next_none z = λ k h. ap (bit word) (omega arith) ∙ moved (k - at) ∙ ap (λ (w : ℕ). bit w (k - at)) z ∙ bit_none (k - at)
+
+  pub next_found : (word / 2 ^ at ≡ 0 → ⊥) → word / 2 ^ at < 2 ^ 64 → NextDigit word at (Some (at + count_trailing_zeros 64 (word / 2 ^ at)))
+  next_found some fits = record {
+    from = omega arith;
+    none = λ k h l. ap (bit word) (omega arith) ∙ moved (k - at) ∙ zeros_below 64 (word / 2 ^ at) (k - at) (omega arith);
+    has = moved (count_trailing_zeros 64 (word / 2 ^ at)) ∙ (low_digit (word / 2 ^ at) (omega arith) fits).1;
+  }
 
 -- ---- two words
 

@@ -1,3 +1,4 @@
+mod Answered
 mod BeforeJobs
 mod Descendants
 mod Digits
@@ -7,9 +8,8 @@ mod Marks
 mod RelativeMarks
 mod ReleasedLoop
 mod SequenceLoops
-mod Stores
+mod Slices
 mod TakeOne
 mod Totals
-mod ColumnLoop
 pub mod WorkLaws
 pub mod Promise

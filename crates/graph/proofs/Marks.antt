@@ -1,53 +1,39 @@
 -- The marks of a row one after another: the lowest of a word, a row without one mark, and that it then has fewer.
 use Prim.Native.Nat.{ℕ, zero, suc, ◌+◌, ◌-◌, ◌^◌, ◌≤◌, ◌<◌}
-use mathlib.Core.Path.{◌≡◌, refl, sym, ap, subst, ◌∙◌}
+use mathlib.Core.Path.{◌≡◌, refl, ap, subst, ◌∙◌}
 use mathlib.Core.Bool.{Bool, true, false, cond, not, ◌&&◌}
-use native.Mathlib.Decide.{dec_lt, ℕ_discrete}
+use native.Mathlib.Decide.{ℕ_discrete}
 use native.Mathlib.Omega.{arith}
+use Rattle.std.specs.Prelude.{None, Some}
 use lib.Count.{count_trailing_zeros}
 use lib.Dec.{eqb}
 use Rattle.reply.specs.Tools.{count}
 use Rattle.reply.specs.Counts.{count_zero, count_suc}
 use Rattle.marks.specs.Row.{bit, marked, no_marks, with_of, without_of, count_of}
-use Rattle.marks.specs.Words.{bit_none, word_same}
+use Rattle.marks.specs.Words.{bit_none}
 use Rattle.marks.specs.Laws.{marked_low, marked_high, marked_past, marked_none, marked_with, marked_without, by_place, count_is}
 use Rattle.marks.specs.declared.Row.{Row}
 use Rattle.graph.specs.ReductionTold.{FindsMark, except_of}
-use Rattle.graph.proofs.Digits.{zeros_below, digit_there}
+use Rattle.graph.proofs.Digits.{low_digit}
 
 -- ---- the lowest mark
 
--- the digit that a count of zeros ends at
-low_digit : (a : ℕ) → 0 < a → a < 2 ^ 64 → (count_trailing_zeros 64 a < 64) × (bit a (count_trailing_zeros 64 a) ≡ true)
-low_digit a some fits = elim (dec_lt (count_trailing_zeros 64 a) 64) [
-  | yes h ↦ (h, digit_there 64 a h)
-  | no h ↦ let none : a ≡ 0 = word_same 64 a 0 fits (omega arith) (λ i l. zeros_below 64 a i (omega arith) ∙ sym (bit_none i)) in absurd (omega arith)
-]
-
 module _ (row : Row) where
-  pub finds_low : 0 < row.low → row.low < 2 ^ 64 → FindsMark row (count_trailing_zeros 64 row.low)
-  finds_low some fits = let (few, there) = low_digit row.low some fits in record {
-    has = λ h. marked_low row (count_trailing_zeros 64 row.low) few ∙ there;
-    none = λ h. absurd (omega arith);
-  }
+  pub finds_low : 0 < row.low → row.low < 2 ^ 64 → FindsMark row (Some (count_trailing_zeros 64 row.low))
+  finds_low some fits = let (few, there) = low_digit row.low some fits in (omega arith, marked_low row (count_trailing_zeros 64 row.low) few ∙ there)
 
-  pub finds_high : 0 < row.high → row.high < 2 ^ 64 → FindsMark row (64 + count_trailing_zeros 64 row.high)
-  finds_high some fits = let (few, there) = low_digit row.high some fits in record {
-    has = λ h. marked_high row (64 + count_trailing_zeros 64 row.high) (omega arith) h ∙ ap (bit row.high) (omega arith) ∙ there;
-    none = λ h. absurd (omega arith);
-  }
+  pub finds_high : 0 < row.high → row.high < 2 ^ 64 → FindsMark row (Some (64 + count_trailing_zeros 64 row.high))
+  finds_high some fits = let (few, there) = low_digit row.high some fits in
+      (omega arith, marked_high row (64 + count_trailing_zeros 64 row.high) (omega arith) (omega arith) ∙ ap (bit row.high) (omega arith) ∙ there)
 
-  pub finds_none : row.low ≤ 0 → row.high ≤ 0 → FindsMark row 128
+  pub finds_none : row.low ≤ 0 → row.high ≤ 0 → FindsMark row None
   finds_none l h =
       let high : row.high ≡ 0 = omega arith in
       let low : row.low ≡ 0 = omega arith in
-      record {
-        has = λ m. absurd (omega arith);
-        none = λ m k. by_place k
-            (λ b. marked_low row k b ∙ ap (λ (w : ℕ). bit w k) low ∙ bit_none k)
-            (λ b c. marked_high row k b c ∙ ap (λ (w : ℕ). bit w (k - 64)) high ∙ bit_none (k - 64))
-            (marked_past row k);
-      }
+      λ k. by_place k
+      (λ b. marked_low row k b ∙ ap (λ (w : ℕ). bit w k) low ∙ bit_none k)
+      (λ b c. marked_high row k b c ∙ ap (λ (w : ℕ). bit w (k - 64)) high ∙ bit_none (k - 64))
+      (marked_past row k)
 
 -- ---- without one
 

@@ -1,6 +1,6 @@
 -- What is released at a time, and until when nothing more is: of one process, and of the processes so far.
-use Prim.Native.Nat.{ℕ, ◌+◌, ◌%◌, ◌≤◌, ◌<◌}
-use mathlib.Core.Path.{◌≡◌, refl, sym, ap, ap₂, subst, ◌∙◌}
+use Prim.Native.Nat.{ℕ, ◌+◌, ◌%◌, ◌≤◌, ◌<◌, min}
+use mathlib.Core.Path.{◌≡◌, sym, ap, ap₂, subst, ◌∙◌}
 use mathlib.Core.Logic.{◌≢◌}
 use mathlib.Core.Bool.{Bool, cond, ◌&&◌, ◌||◌}
 use mathlib.Core.List.{List}
@@ -13,14 +13,12 @@ use lib.Dec.{ltb, eqb}
 use borrow.Author.Tests.{lt-ltb, le-ltb, eq-eqb, ne_eqb}
 use Rattle.reply.specs.Tests.{split}
 use Rattle.marks.specs.Row.{bit}
-use Rattle.marks.specs.Words.{bit_none}
 use Rattle.network.specs.Frame.{no_process, process_at}
 use Rattle.network.specs.Valid.{GoodProcess}
 use Rattle.network.specs.declared.Process.{Process}
 use Rattle.graph.specs.Sequence.{released_at, released_now}
-use Rattle.graph.specs.SequenceTold.{AddsDigit, GoodProcesses, Due, DueFrom, due_after, Sooner, TellsReleased}
+use Rattle.graph.specs.SequenceTold.{AddsDigit, GoodProcesses, Due, DueFrom, due_after, TellsReleased, ReleasedAt}
 use Rattle.graph.specs.Releases.{next_multiple}
-use Rattle.graph.specs.declared.sequence.Released.{Released}
 use Rattle.graph.proofs.FreeLoops.{PendingIn}
 use Rattle.graph.proofs.RelativeMarks.{below_more}
 
@@ -64,12 +62,6 @@ module _ (process : Process) (time due : ℕ) where
 due_from : (process : Process) (time later due : ℕ) → Due process time due → time ≤ later → later ≤ due → Due process later due
 due_from process time later due d h l = record { from = l; multiple = d.multiple; quiet = λ t a b. d.quiet t (omega arith) b }
 
-pub sooner_due : (due next : ℕ) → due < next → Sooner due next due
-sooner_due due next h = record { first = omega arith; second = omega arith; after = λ t a b. a }
-
-pub sooner_next : (due next : ℕ) → next ≤ due → Sooner due next next
-sooner_next due next h = record { first = h; second = omega arith; after = λ t a b. b }
-
 -- ---- several
 
 -- at the start of a frame all are due
@@ -94,17 +86,6 @@ pub record ReleasedSoFar (processes : List Process) (time frame : ℕ) (old : Li
   pub within : next ≤ frame
 
 module _ (processes : List Process) (time frame : ℕ) (old : List ℕ) where
-  pub released_begins : length old ≡ 12 → time < frame → ReleasedSoFar processes time frame old 0 0 frame old
-  released_begins s h = record {
-    size = s;
-    each = λ k l. absurd (omega arith);
-    rest = λ k l. refl;
-    digits = λ k. bit_none k ∙ sym (rw (le-ltb k 0 (omega arith)));
-    least = λ k l. absurd (omega arith);
-    after = h;
-    within = omega arith;
-  }
-
   module _ (n : ℕ) (good : GoodProcesses n processes) (told : DueFrom n processes time old) where
     module _ (i : ℕ) (h : i < n) (pending next : ℕ) (due : List ℕ) (s : ReleasedSoFar processes time frame old i pending next due)
         (new later : ℕ) (a : AddsDigit pending i (eqb (get_or due i 0) time) new) (l : later ≡ due_after (process_at processes i) time (get_or due i 0)) where
@@ -114,7 +95,7 @@ module _ (processes : List Process) (time frame : ℕ) (old : List ℕ) where
       is_later : time < later
       is_later = omega (arith, own, (due_later (process_at processes i) time (get_or old i 0) (good.good i h) (told.each i h)).from)
 
-      pub released_goes_on : (sooner : ℕ) → Sooner later next sooner → ReleasedSoFar processes time frame old (i + 1) new sooner (set due i later)
+      pub released_goes_on : (sooner : ℕ) → sooner ≡ min next later → ReleasedSoFar processes time frame old (i + 1) new sooner (set due i later)
       released_goes_on sooner r = record {
         size = length-set due i later ∙ s.size;
         each = λ k b. elim (ℕ_discrete k i) [
@@ -128,11 +109,11 @@ module _ (processes : List Process) (time frame : ℕ) (old : List ℕ) where
             a.digits k ∙ ap₂ (λ (x : Bool) (y : ℕ). x || (eqb k i && eqb y time)) (s.digits k) (s.rest i (omega arith))
             ∙ below_more (λ x. eqb (get_or old x 0) time) i k;
         least = λ k b. elim (ℕ_discrete k i) [
-          | yes z ↦ subst (λ x. sooner ≤ get_or (set due i later) x 0) (sym z) (omega (arith, r.first, get_or-set_same due i later 0 (omega (arith, s.size, good.few))))
-          | no d ↦ omega (arith, r.second, s.least k (omega arith), get_or-set_other due i k later 0 d)
+          | yes z ↦ subst (λ x. sooner ≤ get_or (set due i later) x 0) (sym z) (omega (arith, r, get_or-set_same due i later 0 (omega (arith, s.size, good.few))))
+          | no d ↦ omega (arith, r, s.least k (omega arith), get_or-set_other due i k later 0 d)
         ];
-        after = r.after time is_later s.after;
-        within = omega (arith, r.second, s.within);
+        after = omega (arith, r, is_later, s.after);
+        within = omega (arith, r, s.within);
       }
 
     module _ (i pending next : ℕ) (due : List ℕ) (few : i ≤ n) (all : n ≤ i) (s : ReleasedSoFar processes time frame old i pending next due) where
@@ -159,7 +140,7 @@ module _ (processes : List Process) (time frame : ℕ) (old : List ℕ) where
 
 -- ---- the jobs that are then pending
 
-module _ (n : ℕ) (processes : List Process) (few : n ≤ length processes) (time frame : ℕ) where
+module _ (n : ℕ) (processes : List Process) (few : n ≤ length processes) (time : ℕ) where
   now_size : length (released_now (take n processes) time) ≡ n
   unfolding released_now
   now_size = length-map (take n processes) (λ p. cond (released_at p time) p.burst 0) ∙ length-take-le n processes few
@@ -172,12 +153,11 @@ module _ (n : ℕ) (processes : List Process) (few : n ≤ length processes) (ti
       ∙ get_or-map (λ p. cond (released_at p time) p.burst 0) (take n processes) k no_process
       ∙ ap (λ (p : Process). cond (released_at p time) p.burst 0) (get_or-take n processes k no_process h)
 
-  pub released_pending : (released : Released) → TellsReleased n processes time frame released
-      → PendingIn n processes released.pending (released_now (take n processes) time)
-  released_pending released t = record {
+  pub released_pending : (word : ℕ) → ReleasedAt n processes time word → PendingIn n processes word (released_now (take n processes) time)
+  released_pending word t = record {
     wide = now_size;
     counts = λ q h.
-        let own : bit released.pending q ≡ released_at (process_at processes q) time = t.digits q ∙ rw (lt-ltb q n h) in
+        let own : bit word q ≡ released_at (process_at processes q) time = t.digits q ∙ rw (lt-ltb q n h) in
         now_at q h ∙ ap (λ (b : Bool). cond b (process_at processes q).burst 0) (sym own);
     past = λ q h. t.digits q ∙ rw (le-ltb q n h);
   }

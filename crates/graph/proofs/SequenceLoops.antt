@@ -7,30 +7,33 @@ use mathlib.Core.List.{List, [], ◌∷◌, ◌++◌, map, append_assoc, append-
 use native.Mathlib.Decide.{ℕ_discrete}
 use native.Mathlib.Numerals.{add-one}
 use native.Mathlib.Omega.{arith}
-use lib.ListN.{length, get_or, set, take, replicate, length-append, length-set}
-use lib.Seq.{get_or-take, get_or-set_same, get_or-set_other, length-take-le}
+use Rattle.std.specs.Prelude.{None, Some}
+use lib.ListN.{length, get_or, take, replicate, length-append, length-set, length-replicate}
+use lib.Seq.{get_or-take, get_or-set_same, get_or-set_other, length-take-le, take-append_seam, drop-append_seam}
+use borrow.Rule.Slice.PartMut.{put_mid}
+use Rattle.std.proofs.lemmas.List.{drop-replicate}
 use lib.Dec.{eqb}
 use borrow.Author.Tests.{eq-eqb, ne_eqb}
 use Rattle.reply.specs.Tools.{count as count_to}
-use Rattle.reply.specs.Tests.{split, both}
+use Rattle.reply.specs.Tests.{both}
 use Rattle.reply.specs.Counts.{sum_none}
-use Rattle.reply.specs.First.{First}
 use Rattle.marks.specs.Row.{bit}
 use Rattle.marks.specs.declared.Row.{Row}
 use Rattle.network.specs.Lists.{fill_to}
-use Rattle.network.specs.ListLaws.{fill_none, fill_store}
+use Rattle.network.specs.ListLaws.{fill_none}
 use Rattle.network.specs.Frame.{no_process, process_at}
 use Rattle.network.specs.Chains.{Relation}
 use Rattle.network.specs.declared.Process.{Process}
 use Rattle.graph.specs.Sequence.{no_job, released_at, released_now, next_free, taken, take_jobs, job_at, pending_count, jobs_released, sequence_to}
+use Rattle.graph.specs.Order.{row_relation}
 use Rattle.graph.specs.Releases.{released_count}
-use Rattle.graph.specs.SequenceTold.{job_from, TakesDigit, FirstWords, word_relation, free_in, GoodProcesses, TellsReleased, HoldsJobs, FitsTable}
+use Rattle.graph.specs.SequenceTold.{job_from, TakesDigit, FirstWords, FirstFree, word_relation, GoodProcesses, TellsReleased, ReleasedAt, HoldsJobs, FitsTable}
 use Rattle.graph.specs.declared.Job.{Job}
 use Rattle.graph.specs.declared.sequence.Jobs.{Jobs}
 use Rattle.graph.specs.declared.sequence.Released.{Released}
 use Rattle.graph.proofs.Marks.{count_less}
-use Rattle.graph.proofs.TakeOne.{next_pending, next_stays, take_next, take_none}
-use Rattle.graph.proofs.FreeLoops.{words_relate, PendingIn, next_same}
+use Rattle.graph.proofs.TakeOne.{next_stays, take_next, take_none}
+use Rattle.graph.proofs.FreeLoops.{words_relate, PendingIn, free_digit, free_below, next_same, none_next}
 use Rattle.graph.proofs.ReleasedLoop.{released_pending}
 
 -- ---- the jobs of one time
@@ -54,22 +57,19 @@ still_none : (processes : List Process) (ahead : Relation) (time : ℕ) (pending
 unfolding still_to_take
 still_none processes ahead time pending h = ap (λ (l : List ℕ). map (job_at processes time) l) (take_none ahead pending h (pending_count pending))
 
--- the table holds the jobs before those still to take; a word has the processes that are pending, and process p is the next
-pub record Taking (n : ℕ) (processes : List Process) (first : List ℕ) (time : ℕ) (jobs : List Job) (count word p : ℕ) : Type 0 where
+-- the table holds the jobs before those still to take; a word has the processes that are pending
+pub record Taking (n : ℕ) (processes : List Process) (first : List ℕ) (time : ℕ) (jobs : List Job) (count word : ℕ) : Type 0 where
   pub held : List Job
   pub pending : List ℕ
   pub size : count ≡ length held
   pub stands : jobs ≡ fill_to 128 no_job held
   pub rest : sequence_to (take n processes) (word_relation n first) (time + 1) ≡ held ++ still_to_take (take n processes) (word_relation n first) time pending
   pub digits : PendingIn n processes word pending
-  pub next : p ≡ next_free (word_relation n first) pending
+  pub fits : word < 2 ^ 64
 
--- the same with a burst of process p begun, of which jobs are left
-pub record Bursting (n : ℕ) (processes : List Process) (first : List ℕ) (time : ℕ) (jobs : List Job) (count word p left : ℕ) : Type 0 where
-  pub held : List Job
+-- the jobs held before those still to take, with a burst of process p begun, of which jobs are left
+pub record Bursting (n : ℕ) (processes : List Process) (first : List ℕ) (time : ℕ) (held : List Job) (word p left : ℕ) : Type 0 where
   pub pending : List ℕ
-  pub size : count ≡ length held
-  pub stands : jobs ≡ fill_to 128 no_job held
   pub rest : sequence_to (take n processes) (word_relation n first) (time + 1) ≡ held ++ still_to_take (take n processes) (word_relation n first) time pending
   pub wide : length pending ≡ n
   pub own : get_or pending p 0 ≡ left
@@ -78,25 +78,22 @@ pub record Bursting (n : ℕ) (processes : List Process) (first : List ℕ) (tim
   pub next : 0 < left → p ≡ next_free (word_relation n first) pending
 
 module _ {n : ℕ} {processes : List Process} {first : List ℕ} {time : ℕ} (good : GoodProcesses n processes) where
-  pub taking_begins : (frame : ℕ) (jobs : List Job) (count p : ℕ) (released : Released) → n ≤ length processes → released.pending < 2 ^ 64
-      → TellsReleased n processes time frame released
+  pub taking_begins : (jobs : List Job) (count word : ℕ) → n ≤ length processes → word < 2 ^ 64 → ReleasedAt n processes time word
       → HoldsJobs (sequence_to (take n processes) (word_relation n first) time) (record { count = count; jobs = jobs })
-      → First (free_in released.pending first) 0 n p → Taking n processes first time jobs count released.pending p
-  taking_begins frame jobs count p released w fits r t f =
-      let digits : PendingIn n processes released.pending (released_now (take n processes) time) = released_pending n processes w time frame released r in
-      record {
-        held = sequence_to (take n processes) (word_relation n first) time;
-        pending = released_now (take n processes) time;
-        size = t.count;
-        stands = t.jobs;
-        rest = sequence_next (take n processes) (word_relation n first) time;
-        digits = digits;
-        next = next_same n processes good first released.pending fits (released_now (take n processes) time) digits p f;
-      }
+      → Taking n processes first time jobs count word
+  taking_begins jobs count word w f r t = record {
+    held = sequence_to (take n processes) (word_relation n first) time;
+    pending = released_now (take n processes) time;
+    size = t.count;
+    stands = t.jobs;
+    rest = sequence_next (take n processes) (word_relation n first) time;
+    digits = released_pending n processes w time word r;
+    fits = f;
+  }
 
-  pub burst_ends : {jobs : List Job} {count word p left : ℕ} → Bursting n processes first time jobs count word p left → left ≤ 0 → (new next : ℕ) → new < 2 ^ 64
-      → TakesDigit word p new → First (free_in new first) 0 n next → Taking n processes first time jobs count new next
-  burst_ends {jobs} {count} {word} {p} {left} s none new next fits gone f =
+  burst_ends : {held : List Job} {word p : ℕ} → Bursting n processes first time held word p 0 → (new : ℕ) → new < 2 ^ 64 → TakesDigit word p new
+      → (jobs : List Job) (count : ℕ) → count ≡ length held → jobs ≡ fill_to 128 no_job held → Taking n processes first time jobs count new
+  burst_ends {held} {word} {p} s new f gone jobs count size stands =
       let digits : PendingIn n processes new s.pending = record {
         wide = s.wide;
         counts = λ q h. elim (ℕ_discrete q p) [
@@ -112,13 +109,13 @@ module _ {n : ℕ} {processes : List Process} {first : List ℕ} {time : ℕ} (g
         past = λ q h. gone.digits q ∙ rw (s.past q h);
       } in
       record {
-        held = s.held;
+        held = held;
         pending = s.pending;
-        size = s.size;
-        stands = s.stands;
+        size = size;
+        stands = stands;
         rest = s.rest;
         digits = digits;
-        next = next_same n processes good first new fits s.pending digits next f;
+        fits = f;
       }
     where
       and_false : (b : Bool) → (b && false) ≡ false
@@ -133,78 +130,101 @@ module _ {n : ℕ} {processes : List Process} {first : List ℕ} {time : ℕ} (g
 unfoldable pub digit_count : ℕ → ℕ
 digit_count word = count_to 64 (bit word)
 
-module _ {n : ℕ} {processes : List Process} {first : List ℕ} {time : ℕ} {jobs : List Job} {count word p : ℕ} (s : Taking n processes first time jobs count word p) where
-  -- the next process has its digit
-  taking_digit : p < n → bit word p ≡ true
-  taking_digit h = split (bit word p) (λ t. t) (λ t. absurd (omega (
-    arith,
-    next_pending (word_relation n first) s.pending p s.next (omega (arith, s.digits.wide)),
-    s.digits.counts p h ∙ ap (λ (b : Bool). cond b (process_at processes p).burst 0) t,
-  )))
+-- the same job so many times, just after what a table holds
+put_filled : (held : List Job) (k : ℕ) (job : Job) → length held + k ≤ 128
+    → put_mid (length held) k (fill_to 128 no_job held) (replicate k job) ≡ fill_to 128 no_job (held ++ replicate k job)
+unfolding fill_to
+put_filled held k job h =
+    let size : length (held ++ replicate k job) ≡ length held + k = length-append held (replicate k job) ∙ ap (λ (m : ℕ). length held + m) (length-replicate k job) in
+    rw (size, append_assoc, take-append_seam held (replicate (128 - length held) no_job), drop-append_seam held (replicate (128 - length held) no_job), drop-replicate k (128 - length held) no_job)
+    (ap (λ (m : ℕ). held ++ (replicate k job ++ replicate m no_job)) (omega arith))
 
-  -- without it fewer are left
-  pub taking_less : p < n → n ≤ 12 → (new : ℕ) → TakesDigit word p new → digit_count new < digit_count word
-  unfolding digit_count
-  taking_less h few new gone = count_less 64 (bit new) (bit word) p (omega arith)
-      (gone.digits p ∙ rw (eq-eqb p p refl, taking_digit h)) (taking_digit h) (λ k t. (both (bit word k) (not (eqb k p)) (sym (gone.digits k) ∙ t)).0)
+-- a job of process p, and its whole burst
+abbrev own_job : List Process → ℕ → ℕ → Job
+own_job processes time p = job_from (process_at processes p) time p
 
-  pub burst_begins : p < n → Bursting n processes first time jobs count word p (process_at processes p).burst
-  burst_begins h = record {
-    held = s.held;
-    pending = s.pending;
-    size = s.size;
-    stands = s.stands;
-    rest = s.rest;
-    wide = s.digits.wide;
-    own = s.digits.counts p h ∙ ap (λ (b : Bool). cond b (process_at processes p).burst 0) (taking_digit h);
-    others = λ q l d. s.digits.counts q l;
-    past = s.digits.past;
-    next = λ l. s.next;
-  }
+abbrev own_burst : List Process → ℕ → ℕ → List Job
+own_burst processes time p = replicate (process_at processes p).burst (own_job processes time p)
 
-  pub taking_ends : n ≤ p → HoldsJobs (sequence_to (take n processes) (word_relation n first) (time + 1)) (record { count = count; jobs = jobs })
-  taking_ends h =
-      let all : sequence_to (take n processes) (word_relation n first) (time + 1) ≡ s.held =
-      s.rest
-      ∙ ap (λ (l : List Job). s.held ++ l) (still_none (take n processes) (word_relation n first) time s.pending (omega (arith, s.digits.wide, s.next)))
-      ∙ append-nil s.held in
-      record { count = s.size ∙ ap length (sym all); jobs = s.stands ∙ ap (λ (l : List Job). fill_to 128 no_job l) (sym all) }
-
-module _ {n : ℕ} {processes : List Process} {first : List ℕ} {time : ℕ} {jobs : List Job} {count word p left : ℕ}
-    (s : Bursting n processes first time jobs count word p left) (h : p < n) (more : 0 < left) where
-  rest_next : sequence_to (take n processes) (word_relation n first) (time + 1)
-      ≡ (s.held ++ (job_at (take n processes) time p ∷ [])) ++ still_to_take (take n processes) (word_relation n first) time (taken s.pending p)
-  rest_next = s.rest ∙ rw (append_assoc, still_next (take n processes) (word_relation n first) time s.pending p (s.next more) (omega (arith, s.wide)))
-
-  -- the table has room for its job
-  pub burst_room : length (sequence_to (take n processes) (word_relation n first) (time + 1)) ≤ 128 → count < 128
-  burst_room r = omega (
-    arith,
-    s.size,
-    ap length rest_next,
-    length-append (s.held ++ (job_at (take n processes) time p ∷ [])) (still_to_take (take n processes) (word_relation n first) time (taken s.pending p)),
-    length-append s.held (job_at (take n processes) time p ∷ []),
-  )
-
-  pub burst_goes_on : (job : Job) → length (sequence_to (take n processes) (word_relation n first) (time + 1)) ≤ 128 → job ≡ job_from (process_at processes p) time p
-      → Bursting n processes first time (set jobs count job) (count + 1) word p (left - 1)
-  burst_goes_on job r e =
-      let same : job ≡ job_at (take n processes) time p = e ∙ ap (λ (x : Process). job_from x time p) (sym (get_or-take n processes p no_process h)) in
+module _ {n : ℕ} {processes : List Process} {first : List ℕ} {time : ℕ} {word p : ℕ} (h : p < n) where
+  burst_goes_on : (left : ℕ) (held : List Job) → Bursting n processes first time held word p (suc left) → Bursting n processes first time (held ++ (own_job processes time p ∷ [])) word p left
+  burst_goes_on left held s =
+      let next : p ≡ next_free (word_relation n first) s.pending = s.next (omega arith) in
+      let same : own_job processes time p ≡ job_at (take n processes) time p = ap (λ (x : Process). job_from x time p) (sym (get_or-take n processes p no_process h)) in
       record {
-        held = s.held ++ (job ∷ []);
         pending = taken s.pending p;
-        size = omega (arith, s.size, length-append s.held (job ∷ []));
-        stands =
-            ap (λ (l : List Job). set l count job) s.stands
-            ∙ ap (λ (k : ℕ). set (fill_to 128 no_job s.held) k job) s.size
-            ∙ fill_store 128 no_job s.held job (omega (arith, s.size, burst_room r));
-        rest = rw same rest_next;
+        rest = s.rest ∙ rw (append_assoc, same, still_next (take n processes) (word_relation n first) time s.pending p next (omega (arith, s.wide)));
         wide = length-set s.pending p (get_or s.pending p 0 - 1) ∙ s.wide;
-        own = get_or-set_same s.pending p (get_or s.pending p 0 - 1) 0 (omega (arith, s.wide)) ∙ ap (λ (x : ℕ). x - 1) s.own;
+        own = get_or-set_same s.pending p (get_or s.pending p 0 - 1) 0 (omega (arith, s.wide)) ∙ omega (arith, s.own);
         others = λ q l d. get_or-set_other s.pending p q (get_or s.pending p 0 - 1) 0 d ∙ s.others q l d;
         past = s.past;
-        next = λ l. next_stays (word_relation n first) s.pending p (s.next more) (omega (arith, s.wide)) (omega (arith, s.own));
+        next = λ l. next_stays (word_relation n first) s.pending p next (omega (arith, s.wide)) (omega (arith, s.own));
       }
+
+  -- all of the burst
+  burst_whole : (left : ℕ) (held : List Job) → Bursting n processes first time held word p left → Bursting n processes first time (held ++ replicate left (own_job processes time p)) word p 0
+  burst_whole zero held s = rw (append-nil held) s
+  burst_whole (suc left) held s = rw (append_assoc) at (burst_whole left (held ++ (own_job processes time p ∷ [])) (burst_goes_on left held s))
+
+module _ {n : ℕ} {processes : List Process} {first : List ℕ} {time : ℕ} {jobs : List Job} {count word : ℕ} (good : GoodProcesses n processes)
+    (s : Taking n processes first time jobs count word) where
+  module _ (p : ℕ) (f : FirstFree word first (Some p)) where
+    -- the next process is one of them, and has its digit
+    pub taking_below : p < n
+    taking_below = free_below n processes good first word s.fits s.pending s.digits p f
+
+    taking_digit : bit word p ≡ true
+    taking_digit = free_digit n processes good first word s.fits s.pending s.digits p f
+
+    -- without it fewer are left
+    pub taking_less : (new : ℕ) → TakesDigit word p new → digit_count new < digit_count word
+    unfolding digit_count
+    taking_less new gone = count_less 64 (bit new) (bit word) p (omega (arith, f.0))
+        (gone.digits p ∙ rw (eq-eqb p p refl, taking_digit)) taking_digit (λ k t. (both (bit word k) (not (eqb k p)) (sym (gone.digits k) ∙ t)).0)
+
+    burst_begins : Bursting n processes first time s.held word p (process_at processes p).burst
+    burst_begins = record {
+      pending = s.pending;
+      rest = s.rest;
+      wide = s.digits.wide;
+      own = s.digits.counts p taking_below ∙ ap (λ (b : Bool). cond b (process_at processes p).burst 0) taking_digit;
+      others = λ q l d. s.digits.counts q l;
+      past = s.digits.past;
+      next = λ l. next_same n processes good first word s.fits s.pending s.digits p f;
+    }
+
+    burst_is : Bursting n processes first time (s.held ++ own_burst processes time p) word p 0
+    burst_is = burst_whole taking_below (process_at processes p).burst s.held burst_begins
+
+    -- the table has room for it
+    pub burst_fits : length (sequence_to (take n processes) (word_relation n first) (time + 1)) ≤ 128 → count + (process_at processes p).burst ≤ 128
+    burst_fits room = omega (
+      arith,
+      s.size,
+      ap length burst_is.rest,
+      length-append (s.held ++ own_burst processes time p) (still_to_take (take n processes) (word_relation n first) time burst_is.pending),
+      length-append s.held (own_burst processes time p),
+      length-replicate (process_at processes p).burst (own_job processes time p),
+    )
+
+    -- with it in the table, the process is done
+    pub burst_stored : length (sequence_to (take n processes) (word_relation n first) (time + 1)) ≤ 128 → (new : ℕ) → new < 2 ^ 64 → TakesDigit word p new
+        → (part : List Job) → part ≡ own_burst processes time p
+        → Taking n processes first time (put_mid count (count + (process_at processes p).burst - count) jobs part) (count + (process_at processes p).burst) new
+    burst_stored room new fits gone part e =
+        let k : count + (process_at processes p).burst - count ≡ (process_at processes p).burst = omega arith in
+        burst_ends good burst_is new fits gone _ _
+        (omega (arith, s.size, length-append s.held (own_burst processes time p), length-replicate (process_at processes p).burst (own_job processes time p)))
+        (rw (k, e, s.stands, s.size) (put_filled s.held (process_at processes p).burst (own_job processes time p) (omega (arith, s.size, burst_fits room))))
+
+  pub taking_ends : FirstFree word first None
+      → HoldsJobs (sequence_to (take n processes) (word_relation n first) (time + 1)) (record { count = count; jobs = jobs })
+  taking_ends none =
+      let all : sequence_to (take n processes) (word_relation n first) (time + 1) ≡ s.held =
+      s.rest
+      ∙ ap (λ (l : List Job). s.held ++ l) (still_none (take n processes) (word_relation n first) time s.pending (none_next n processes good first word s.fits s.pending s.digits none))
+      ∙ append-nil s.held in
+      record { count = s.size ∙ ap length (sym all); jobs = s.stands ∙ ap (λ (l : List Job). fill_to 128 no_job l) (sym all) }
 
 -- ---- the times
 
@@ -234,9 +254,14 @@ module _ (n : ℕ) (processes : List Process) (ahead : List Row) (frame : ℕ) (
   pub good_of : GoodProcesses n processes
   good_of = record { few = t.few; good = t.good }
 
-  pub room_of : (first : List ℕ) → FirstWords n ahead first → (time : ℕ) → time < frame
-      → length (sequence_to (take n processes) (word_relation n first) (time + 1)) ≤ 128
-  room_of first f time h = rw (sym (words_relate n ahead first f)) (t.room (time + 1) (omega arith))
+-- the words of a frame's processes hold the relation of its rows
+module _ {processes : List Process} {ahead : List Row} {frame : ℕ} (t : FitsTable (length processes) processes ahead frame) (same : length ahead ≡ length processes)
+    {first : List ℕ} (words : FirstWords (length ahead) ahead first) where
+  pub rows_are_words : row_relation (length processes) ahead ≡ word_relation (length processes) first
+  rows_are_words = words_relate (length processes) ahead first (rw same at words)
+
+  pub room_of : (time : ℕ) → time < frame → length (sequence_to (take (length processes) processes) (word_relation (length processes) first) (time + 1)) ≤ 128
+  room_of time h = rw (sym rows_are_words) (t.room (time + 1) (omega arith))
 
 module _ (n : ℕ) (processes : List Process) (ahead : Relation) where
   -- the next release after a time

@@ -1,5 +1,5 @@
 -- What the code that builds the predecessor rows takes and gives, in marks.
-use Rattle.std.specs.Prelude.{ℕ, ◌≤◌, ◌<◌, ◌≡◌, Bool, cond, ◌&&◌, ◌||◌, List, get_or, ltb, eqb}
+use Rattle.std.specs.Prelude.{ℕ, ◌≤◌, ◌<◌, ◌≡◌, Bool, cond, ◌&&◌, ◌||◌, List, length, get_or, ltb, eqb}
 use Rattle.reply.specs.Tools.{any}
 use Rattle.marks.specs.Row.{marked, row_of, no_marks, or_of}
 use Rattle.marks.specs.declared.Row.{Row}
@@ -31,3 +31,18 @@ jobs_related n jobs ahead p = row_of (λ i. any n (λ q. is_relative (get_or ahe
 -- row p marks them
 pub record RelatedRows (n : ℕ) (jobs ahead rows : List Row) : Type 0 where
   pub row : (p : ℕ) → p < n → get_or rows p no_marks ≡ jobs_related n jobs ahead p
+
+-- row p marks the jobs of p and its relatives, of a table of jobs
+pub record Relatives (jobs : List Job) (ahead rows : List Row) : Type 0 where
+  pub each : List Row
+  pub own : JobsOf (length jobs) jobs each
+  pub related : RelatedRows (length ahead) each ahead rows
+
+-- row j is the part of the marks of j's relatives that a step gives, by the marks of the jobs before j
+pub record RowsBy (step : Row → Row → ℕ → Row → Type 0) (jobs : List Job) (ahead rows : List Row) : Type 0 where
+  pub relatives : List Row
+  pub told : Relatives jobs ahead relatives
+  pub size : length rows ≡ 128
+  pub each : (j : ℕ) → j < length jobs
+      → (passed : Row) × ((i : ℕ) → marked passed i ≡ ltb i j) × step (get_or relatives (job_of jobs j).process no_marks) passed j (get_or rows j no_marks)
+  pub past : (j : ℕ) → length jobs ≤ j → get_or rows j no_marks ≡ no_marks

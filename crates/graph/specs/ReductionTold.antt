@@ -1,5 +1,6 @@
 -- What the functions of the reduction say of rows of marks.
-use Rattle.std.specs.Prelude.{ℕ, ◌≤◌, ◌<◌, ◌≡◌, true, false, ◌&&◌, List, get_or}
+use Rattle.std.specs.Prelude.{ℕ, ◌<◌, ◌≡◌, true, false, ◌&&◌, List, get_or, None, Some}
+use Rattle.std.specs.declared.option.Option.{Option}
 use Rattle.reply.specs.Tools.{any, sum}
 use Rattle.marks.specs.Row.{marked, no_marks, row_of, with_of, without_of, count_of}
 use Rattle.marks.specs.declared.Row.{Row}
@@ -18,10 +19,10 @@ pub record ReducedFrom (n : ℕ) (after : List Row) (rows : List Row) (edges : �
 
 -- ---- the steps
 
--- a mark of the row, or 128 or more if it has none
-pub record FindsMark (row : Row) (r : ℕ) : Type 0 where
-  pub has : r < 128 → marked row r ≡ true
-  pub none : 128 ≤ r → (k : ℕ) → marked row k ≡ false
+-- a mark of the row; none only if it has none
+abbrev pub FindsMark : Row → Option ℕ → Type 0
+FindsMark row None = (k : ℕ) → marked row k ≡ false
+FindsMark row (Some i) = (i < 128) × (marked row i ≡ true)
 
 -- the row without mark i
 unfoldable pub except_of : Row → ℕ → Row
@@ -30,6 +31,11 @@ except_of row i = without_of row (with_of no_marks i)
 -- what row k marks, for each k below n that `row` marks
 unfoldable pub gathered : ℕ → List Row → Row → Row
 gathered n rows row = row_of (λ i. any n (λ k. marked row k && marked (get_or rows k no_marks) i))
+
+-- of each mark of `row`: what the rows that its own row marks mark, its own row marks too
+pub record ReachesOn (rows : List Row) (row : Row) : Type 0 where
+  pub join : (i k x : ℕ) → marked row i ≡ true → marked (get_or rows i no_marks) k ≡ true → marked (get_or rows k no_marks) x ≡ true
+      → marked (get_or rows i no_marks) x ≡ true
 
 -- how many marks the rows below n have
 unfoldable pub marks_of : ℕ → List Row → ℕ

@@ -1,6 +1,8 @@
 -- What the functions that build the table of jobs ask for, and what they give.
-use Rattle.std.specs.Prelude.{ℕ, ◌+◌, ◌%◌, ◌≤◌, ◌<◌, ◌≡◌, Bool, false, true, cond, not, ◌&&◌, ◌||◌, List, length, get_or, take, ltb, eqb}
+use Rattle.std.specs.Prelude.{ℕ, ◌+◌, ◌%◌, ◌≤◌, ◌<◌, ◌≡◌, Bool, false, true, cond, not, ◌&&◌, ◌||◌, List, length, get_or, take, ltb, eqb, None, Some}
+use Rattle.std.specs.declared.option.Option.{Option}
 use Rattle.std.specs.Int.Bits.{bit_and}
+use Rattle.reply.specs.First.{First}
 use Rattle.marks.specs.Row.{bit, marked, no_marks}
 use Rattle.marks.specs.declared.Row.{Row}
 use Rattle.network.specs.Lists.{fill_to}
@@ -28,11 +30,20 @@ pub record AddsDigit (word q : ℕ) (add : Bool) (r : ℕ) : Type 0 where
 pub record TakesDigit (word p r : ℕ) : Type 0 where
   pub digits : (k : ℕ) → bit r k ≡ (bit word k && not (eqb k p))
 
--- the first digit from a place on; 64 or more if there is none
-pub record NextDigit (word at r : ℕ) : Type 0 where
-  pub from : at ≤ r
-  pub none : (k : ℕ) → at ≤ k → k < r → bit word k ≡ false
-  pub has : r < 64 → bit word r ≡ true
+-- p is the first digit from a place on
+pub record IsNext (word at p : ℕ) : Type 0 where
+  pub from : at ≤ p
+  pub none : (k : ℕ) → at ≤ k → k < p → bit word k ≡ false
+  pub has : bit word p ≡ true
+
+-- the first digit from a place on; none only if there is none
+abbrev pub NextDigit : ℕ → ℕ → Option ℕ → Type 0
+NextDigit word at None = (k : ℕ) → at ≤ k → bit word k ≡ false
+NextDigit word at (Some p) = IsNext word at p
+
+-- no digit from a place on
+pub record FewDigits (n word : ℕ) : Type 0 where
+  pub none : (k : ℕ) → n ≤ k → bit word k ≡ false
 
 -- the processes below n whose rows mark p
 pub record FirstOf (n : ℕ) (ahead : List Row) (p r : ℕ) : Type 0 where
@@ -48,6 +59,11 @@ word_relation n first = relation n (λ a b. bit (get_or first b 0) a)
 -- process p is pending, and none of those before it is
 unfoldable pub free_in : ℕ → List ℕ → ℕ → Bool
 free_in pending first p = bit pending p && eqb (bit_and (get_or first p 0) pending) 0
+
+-- the smallest of twelve processes that is free; none only if none is
+abbrev pub FirstFree : ℕ → List ℕ → Option ℕ → Type 0
+FirstFree pending first None = First (free_in pending first) 0 12 12
+FirstFree pending first (Some p) = (p < 12) × First (free_in pending first) 0 12 p
 
 -- ---- releases
 
@@ -70,11 +86,9 @@ pub record DueFrom (n : ℕ) (processes : List Process) (time : ℕ) (due : List
 unfoldable pub due_after : Process → ℕ → ℕ → ℕ
 due_after process time due = cond (eqb due time) (due + process.period) due
 
--- the sooner of two times
-pub record Sooner (a b r : ℕ) : Type 0 where
-  pub first : r ≤ a
-  pub second : r ≤ b
-  pub after : (t : ℕ) → t < a → t < b → t < r
+-- a word has the first n processes that release at a time
+pub record ReleasedAt (n : ℕ) (processes : List Process) (time word : ℕ) : Type 0 where
+  pub digits : (p : ℕ) → bit word p ≡ (ltb p n && released_at (process_at processes p) time)
 
 -- which of the first n processes release at a time of a frame, and until when they release no more
 pub record TellsReleased (n : ℕ) (processes : List Process) (time frame : ℕ) (r : Released) : Type 0 where

@@ -1,10 +1,9 @@
 -- Lines of numbers put one after another: the room for them, a line number by number, the lines of jobs.
 use Prim.Native.Nat.{ℕ, zero, suc, ◌+◌, ◌-◌, ◌≤◌, ◌<◌}
-use mathlib.Core.Path.{◌≡◌, refl, sym, ap, ◌∙◌}
+use mathlib.Core.Path.{◌≡◌, refl, sym, ap}
 use mathlib.Core.List.{List, [], ◌∷◌, ◌++◌}
 use native.Mathlib.Omega.{arith}
-use lib.ListN.{length, take, replicate, length-append, length-replicate}
-use lib.Seq.{sets-eq, length-sets, take_at}
+use lib.ListN.{length, length-append}
 use Rattle.graph.specs.Work.{job_of}
 use Rattle.graph.specs.declared.Job.{Job}
 use Rattle.graph.specs.declared.PrecedenceGraph.{PrecedenceGraph}
@@ -40,15 +39,15 @@ put_more n m more p q = told (join p q) (sym (line_more n m more))
 -- ---- the head
 
 module _ (jobs frame edges : ℕ) where
-  pub head : {b₀ b₁ b₂ b₃ b₄ b₅ b₆ : List ℕ} {p₁ p₂ p₃ p₄ p₅ p₆ : ℕ} → Printed b₀ 0 jobs_text b₁ p₁ → Printed b₁ p₁ (decimal jobs) b₂ p₂ → Printed b₂ p₂ frame_text b₃ p₃
-      → Printed b₃ p₃ (decimal frame) b₄ p₄ → Printed b₄ p₄ edges_text b₅ p₅ → Printed b₅ p₅ (decimal edges ++ (newline ∷ [])) b₆ p₆ → Printed b₀ 0 (head_line jobs frame edges) b₆ p₆
+  pub head : {b₀ b₁ b₂ b₃ b₄ b₅ b₆ : List ℕ} {p₀ p₁ p₂ p₃ p₄ p₅ p₆ : ℕ} → Printed b₀ p₀ jobs_text b₁ p₁ → Printed b₁ p₁ (decimal jobs) b₂ p₂ → Printed b₂ p₂ frame_text b₃ p₃
+      → Printed b₃ p₃ (decimal frame) b₄ p₄ → Printed b₄ p₄ edges_text b₅ p₅ → Printed b₅ p₅ (decimal edges ++ (newline ∷ [])) b₆ p₆ → Printed b₀ p₀ (head_line jobs frame edges) b₆ p₆
   unfolding head_line
   head a b c d e f = join a (join b (join c (join d (join e f))))
 
 -- ---- a refusal
 
-pub refusal : (number place : ℕ) {b₀ b₁ b₂ b₃ b₄ b₅ : List ℕ} {p₁ p₂ p₃ p₄ p₅ : ℕ} → Printed b₀ 0 refused_text b₁ p₁ → Printed b₁ p₁ (decimal number) b₂ p₂ → Printed b₂ p₂ at_text b₃ p₃
-    → Printed b₃ p₃ (decimal place) b₄ p₄ → Printed b₄ p₄ (newline ∷ []) b₅ p₅ → Printed b₀ 0 (refusal_line number place) b₅ p₅
+pub refusal : (number place : ℕ) {b₀ b₁ b₂ b₃ b₄ b₅ : List ℕ} {p₀ p₁ p₂ p₃ p₄ p₅ : ℕ} → Printed b₀ p₀ refused_text b₁ p₁ → Printed b₁ p₁ (decimal number) b₂ p₂ → Printed b₂ p₂ at_text b₃ p₃
+    → Printed b₃ p₃ (decimal place) b₄ p₄ → Printed b₄ p₄ (newline ∷ []) b₅ p₅ → Printed b₀ p₀ (refusal_line number place) b₅ p₅
 unfolding refusal_line
 refusal number place a b c d e = join a (join b (join c (join d e)))
 
@@ -89,34 +88,14 @@ module _ (graph : PrecedenceGraph) (plan : List ℕ) where
   unfolding text_by
   text_size = length-append (head_line graph.job_count graph.frame graph.edges) (job_lines graph.jobs plan graph.job_count)
 
-  module _ (room : length (text_by graph plan) ≤ 4096) where
-    pub head_room : length (head_line graph.job_count graph.frame graph.edges) ≤ 4096
+  module _ (from : ℕ) (room : from + length (text_by graph plan) ≤ 4096) where
+    pub head_room : from + length (head_line graph.job_count graph.frame graph.edges) ≤ 4096
     head_room = omega (arith, text_size)
 
-    module _ {before between : List ℕ} {at : ℕ} (head : Printed before 0 (head_line graph.job_count graph.frame graph.edges) between at) where
+    module _ {before between : List ℕ} {at : ℕ} (head : Printed before from (head_line graph.job_count graph.frame graph.edges) between at) where
       pub rest_room : at + length (job_lines graph.jobs plan graph.job_count) ≤ 4096
       rest_room = omega (arith, head.ends, text_size)
 
-      pub whole : {after : List ℕ} {next : ℕ} → Printed between at (job_lines graph.jobs plan graph.job_count) after next → Printed before 0 (text_by graph plan) after next
+      pub whole : {after : List ℕ} {next : ℕ} → Printed between at (job_lines graph.jobs plan graph.job_count) after next → Printed before from (text_by graph plan) after next
       unfolding text_by
       whole lines = join head lines
-
-pub words_size : {words : List ℕ} → words ≡ replicate 256 0 → length words ≡ 256
-words_size e = ap length e ∙ length-replicate {A = ℕ} 256 0
-
--- the text is a front of the buffer
-module _ {text : List ℕ} {before after : List ℕ} {size : ℕ} (fresh : before ≡ replicate 4096 0) (p : Printed before 0 text after size) (short : length text ≤ 4096) where
-  room : length before ≡ 4096
-  room = ap length fresh ∙ length-replicate {A = ℕ} 4096 0
-
-  size_is : length text ≡ size
-  size_is = omega (arith, p.ends)
-
-  pub front_is : take size after ≡ text
-  front_is = rw (p.stands, sets-eq text before 0 (omega (arith, room))) (take_at text _ size size_is)
-
-  pub front_size : size ≡ length (take size after)
-  front_size = sym size_is ∙ sym (ap length front_is)
-
-  pub front_fits : size ≤ length after
-  front_fits = omega (arith, p.ends, ap length p.stands, length-sets before 0 text, room)

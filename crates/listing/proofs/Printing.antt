@@ -1,15 +1,19 @@
 -- Text put piece by piece: one byte, one piece after another, a number's digits, the words of a loop.
-use Prim.Native.Nat.{ℕ, ◌+◌, ◌/◌, ◌%◌, ◌^◌, ◌≤◌, ◌<◌}
-use mathlib.Core.Path.{◌≡◌, refl, sym, ap, ◌∙◌}
+use Prim.Native.Nat.{ℕ, ◌+◌, ◌/◌, ◌^◌, ◌≤◌, ◌<◌}
+use mathlib.Core.Path.{◌≡◌, refl, sym, ◌∙◌}
 use mathlib.Core.List.{List, [], ◌∷◌, ◌++◌}
-use native.Mathlib.Numerals.{add-one}
 use native.Mathlib.Omega.{arith}
-use lib.ListN.{length, get_or, take, length-append, set}
-use lib.Seq.{take-suc, take_all}
+use lib.ListN.{length, length-append, set, replicate}
+use lib.Seq.{sets, sets-eq}
+use borrow.Rule.Slice.PartMut.{put_mid}
+use Rattle.std.proofs.lemmas.Grind.{common_steps}
 use Rattle.number.specs.PutLaws.{sets_append}
-use Rattle.listing.specs.Listing.{digit, decimal}
+use Rattle.std.specs.Fmt as Fmt
+use Rattle.std.proofs.lemmas.Fmt.{decimal_by_steps}
+use Rattle.listing.specs.Listing.{decimal}
 use Rattle.listing.specs.DecimalLaws.{decimal_last, decimal_more}
-use Rattle.listing.specs.Printed.{Printed}
+use Rattle.listing.specs.Printed.{Printed, Put, no_text, text_with}
+use Rattle.listing.specs.declared.text.Text.{Text}
 
 -- ---- piece by piece
 
@@ -30,32 +34,20 @@ module _ {before : List ℕ} {from : ℕ} {xs : List ℕ} {between : List ℕ} {
 
 -- ---- numbers
 
-module _ (from n : ℕ) (room : from + length (decimal n) ≤ 4096) where
-  pub last_room : n < 10 → from < 4096
-  last_room h = omega (arith, ap length (decimal_last n h))
-
-  module _ (h : 10 ≤ n) (fits : n < 2 ^ 64) where
-    pub more : decimal n ≡ decimal (n / 10) ++ (digit (n % 10) ∷ [])
-    more = decimal_more n h (omega arith)
-
-    pub more_room : from + length (decimal (n / 10)) < 4096
-    more_room = omega (arith, ap length more, length-append (decimal (n / 10)) (digit (n % 10) ∷ []))
+-- std's plain decimal is ours
+pub plain : (n : ℕ) → n < 2 ^ 64 → Fmt.decimal n ≡ decimal n
+plain n h = decimal_by_steps (λ m ds. m < 10 ^ 20 → ds ≡ decimal m) (λ m l b. sym (decimal_last m l)) (λ m ds l e b. let same : ds ≡ decimal (m / 10) = e (omega arith) in rw same (sym (decimal_more m l b))) n h (omega arith)
 
 -- ---- words
 
--- the first i bytes of the words are put
-pub record WordsPut (before : List ℕ) (from : ℕ) (words : List ℕ) (i : ℕ) (text : List ℕ) : Type 0 where
-  pub printed : Printed before from (take i words) text (from + i)
+-- words written over a part of a buffer
+pub put_there : (before words after : List ℕ) (from k : ℕ) → after ≡ words → k ≡ length words → from + length words ≤ length before → put_mid from k before after ≡ sets before from words
+put_there before words after from k e z h = rw (e, z, sets-eq words before from h) (grind (arith, common_steps))
 
-pub words_start : (before : List ℕ) (from : ℕ) (words : List ℕ) → WordsPut before from words 0 before
-words_start before from words = record { printed = record { stands = refl; ends = refl } }
+-- ---- a text from its first byte on
 
-module _ {before : List ℕ} {from : ℕ} {words : List ℕ} {i : ℕ} {text : List ℕ} (p : WordsPut before from words i text) where
-  pub words_more : i < length words → WordsPut before from words (i + 1) (set text (from + i) (get_or words i 0))
-  words_more h =
-      let z : from + i + 1 ≡ from + (i + 1) = omega arith in
-      let e : take (i + 1) words ≡ take i words ++ (get_or words i 0 ∷ []) = rw (add-one i) (take-suc words i 0 h) in
-      record { printed = rw (e, ← z) (join p.printed (one text (from + i) (get_or words i 0))) }
-
-  pub words_done : length words ≤ i → Printed before from words text (from + i)
-  words_done h = told p.printed (take_all i words h)
+pub all_put : {before : Text} {words : List ℕ} {after : Text} → before ≡ no_text → Put before words after → after ≡ text_with words
+all_put {before} {words} {after} fresh p =
+    let bytes : after.bytes ≡ sets (replicate 4096 0) 0 words = p.stands ∙ rw fresh refl in
+    let size : after.length ≡ length words = p.ends ∙ rw fresh (omega arith) in
+    rw (← bytes, ← size) refl

@@ -1,15 +1,18 @@
 -- The call's cases: the planner's refusals, the room, and that what `plan` and `graph` return make the text.
-use Rattle.std.specs.Prelude.{ℕ, ◌+◌, ◌*◌, ◌≤◌, ◌<◌, ◌≡◌, get_or, take}
+use Rattle.std.specs.Prelude.{ℕ, ◌+◌, ◌*◌, ◌≤◌, ◌<◌, ◌≡◌, Bool, true, false, cond, eqb, get_or, take, replicate, Ok, Err}
 use Rattle.std.proofs.Math.Path.{refl, ap}
 use Rattle.std.proofs.Common.{sym, ◌∙◌, arith, length-take-le, le-leb}
 use mathlib.Core.List.{List, ◌++◌}
-use Rattle.std.proofs.Math.ListN.{length}
-use Rattle.std.proofs.Math.Seq.{sets, length-sets}
+use Rattle.std.proofs.Math.ListN.{length, length-replicate}
+use Rattle.std.proofs.Math.Seq.{sets, sets-eq, length-sets, take_at}
 use Rattle.reply.specs.Reply.{reply_number}
+use Rattle.reply.specs.Told as Told
+use Rattle.std.specs.declared.result.Result as Std
 use Rattle.reply.specs.Result.{Result, done, refused, and_then, answer_of}
 use Rattle.reply.specs.ResultLaws.{Honest, honest_refused, zero_means, other_means, accepted, done_same, refused_not}
 use Rattle.reply.specs.Call.{ok_room}
 use Rattle.reply.specs.declared.Answer.{Answer}
+use Rattle.reply.specs.declared.Refusal.{Refusal}
 use Rattle.reply.specs.declared.Reply.{Reply}
 use Rattle.network.specs.ListLaws.{fill_at}
 use Rattle.network.specs.Write.{given, told_of, filled_by}
@@ -23,7 +26,8 @@ use Rattle.graph.specs.declared.PrecedenceGraph.{PrecedenceGraph}
 use Rattle.plan.specs.Plan.{planned_by, plan_work, plan_call, plan_filled}
 use Rattle.plan.proofs.Promise.{planner_size, planner_misses, sets_front}
 use Rattle.listing.specs.Listing.{head_line, listing_text, listed, list_call, listed_of, list_filled, refusal_line, printed, page_of}
-use Rattle.listing.specs.Printed.{Printed, text_by}
+use Rattle.listing.specs.Printed.{Printed, text_by, text_with}
+use Rattle.listing.specs.declared.text.Text.{Text}
 use Rattle.listing.specs.TextLaws.{lines_same, listing_most, refusal_most}
 use Rattle.listing.specs.declared.Listed.{Listed}
 
@@ -114,6 +118,70 @@ module _ (file : List ℕ) {graph : PrecedenceGraph} {words : List ℕ} (l : Lis
   unfolding list_call listed_of list_filled given told_of filled_by
   list_given e is f = (rw (is, e, l.text), f ∙ rw (e, l.text))
 
+-- ---- the text of a file, or why there is none
+
+abbrev Outcome : Type 0
+Outcome = Std.Result (Unit {0}) Refusal
+
+-- an answer that is a refusal says it
+refusal_told_by : (b : Bool) (answer : Answer) (e : Refusal) → eqb (reply_number answer.reply) 0 ≡ b
+    → ◌≡◌ {A = Outcome} (cond {A = Outcome} b (Ok tt) (Err (record { reply = answer.reply; place = answer.place }))) (Err e)
+    → (reply_number answer.reply ≡ 0 → ⊥) × (answer ≡ record { reply = e.reply; place = e.place })
+refusal_told_by true answer e z f = let n : ◌≡◌ {A = ℕ} 0 1 = cc in absurd (omega arith)
+refusal_told_by false answer e z f =
+    let same : ◌≡◌ {A = Refusal} (record { reply = answer.reply; place = answer.place }) e = cc in
+    (λ k. grind arith, ap (λ (x : Refusal). record { reply = x.reply; place = x.place }) same)
+
+-- and one that is not is done
+not_refused_by : (b : Bool) (answer : Answer) → eqb (reply_number answer.reply) 0 ≡ b
+    → ◌≡◌ {A = Outcome} (cond {A = Outcome} b (Ok tt) (Err (record { reply = answer.reply; place = answer.place }))) (Ok tt)
+    → reply_number answer.reply ≡ 0
+not_refused_by true answer z f = grind arith
+not_refused_by false answer z f = let n : ◌≡◌ {A = ℕ} 0 1 = cc in absurd (omega arith)
+
+pub not_refused : (answer : Answer) → Told.refusal_in answer ≡ Ok tt → reply_number answer.reply ≡ 0
+not_refused answer f = not_refused_by _ answer refl f
+
+module _ (file words : List ℕ) (room : length words ≡ 256) {answer : Answer} (is : answer ≡ answer_of (plan_call file 2 words)) where
+  -- the planner's refusal
+  pub text_refused : {e : Refusal} → Told.refusal_in answer ≡ Err e → listed file ≡ refused e.reply e.place
+  text_refused {e} h =
+      let (other, says) = refusal_told_by _ answer e refl h in
+      other_means (plan_call file 2 words) (λ z. other (rw is z)) λ reply place p.
+      let l : listed file ≡ refused reply place = listed_refused file reply place (sym (plan_two file words room) ∙ p) in
+      let a : answer ≡ record { reply = reply; place = place } = is ∙ ap answer_of p in
+      let same_reply : reply ≡ e.reply = sym (ap (λ (x : Answer). x.reply) a) ∙ ap (λ (x : Answer). x.reply) says in
+      let same_place : place ≡ e.place = sym (ap (λ (x : Answer). x.place) a) ∙ ap (λ (x : Answer). x.place) says in
+      rw (same_reply, same_place) at l
+
+-- a text from its first byte on: its front is it
+module _ (text : List ℕ) (short : length text ≤ 4096) where
+  pub with_front : take (length text) (text_with text).bytes ≡ text
+  with_front = rw (sets-eq text (replicate 4096 0) 0 (omega (arith, length-replicate {A = ℕ} 4096 0))) (take_at text _ (length text) refl)
+
+module _ (file : List ℕ) where
+  pub told_refused : {e : Refusal} → listed file ≡ refused e.reply e.place → Err e ≡ Told.told text_with (listed file)
+  told_refused l = rw l refl
+
+  pub told_text : {graph : PrecedenceGraph} {words : List ℕ} → Listing file graph words → {text : Text} → text ≡ text_with (text_by graph words)
+      → Ok text ≡ Told.told text_with (listed file)
+  told_text l is = rw (l.text, is) refl
+
+  -- and back
+  pub is_refused : {e : Refusal} → Err e ≡ Told.told text_with (listed file) → listed file ≡ refused e.reply e.place
+  is_refused {e} = go (listed file)
+    where
+      go : (r : Result (List ℕ)) → Err e ≡ Told.told text_with r → r ≡ refused e.reply e.place
+      go (done text) f = let n : ◌≡◌ {A = ℕ} 0 1 = cc in absurd (omega arith)
+      go (refused reply place) f = let same : e ≡ record { reply = reply; place = place } = cc in rw same refl
+
+  pub is_done : {P : Type 0} {text : Text} → Ok text ≡ Told.told text_with (listed file) → ((bytes : List ℕ) → listed file ≡ done bytes → text ≡ text_with bytes → P) → P
+  is_done {P} {text} = go (listed file) refl
+    where
+      go : (r : Result (List ℕ)) → listed file ≡ r → Ok text ≡ Told.told text_with r → ((bytes : List ℕ) → listed file ≡ done bytes → text ≡ text_with bytes → P) → P
+      go (done bytes) e f k = k bytes e cc
+      go (refused reply place) e f k = let n : ◌≡◌ {A = ℕ} 0 1 = cc in absurd (omega arith)
+
 -- ---- with room for every text
 
 pub listed_most : (file text : List ℕ) → listed file ≡ done text → length text ≤ 3744
@@ -168,6 +236,35 @@ module _ (file out : List ℕ) (room : length out ≡ 4096) where
         let answer : r.answer ≡ record { reply = reply; place = place } = answer_is ∙ ap answer_of e in
         rw e (rw (number, kept, answer) at p)
 
+-- ---- what the text's function told, for the call and the page
+
+module _ (file : List ℕ) where
+  -- a refusal
+  module _ {e : Refusal} (says : Err e ≡ Told.told text_with (listed file)) where
+    pub call_refused : (out : List ℕ) → (record { answer = record { reply = e.reply; place = e.place }; length = 0 } ≡ listed_of (list_call file out)) × (out ≡ list_filled (list_call file out) out)
+    unfolding list_call listed_of list_filled
+    call_refused out = let l : listed file ≡ refused e.reply e.place = is_refused file says in (rw l refl, rw l refl)
+
+    pub page_line : text_with (refusal_line (reply_number e.reply) e.place) ≡ text_with (page_of file)
+    unfolding page_of
+    page_line = let l : listed file ≡ refused e.reply e.place = is_refused file says in rw l refl
+
+  -- or the text
+  module _ {text : Text} (says : Ok text ≡ Told.told text_with (listed file)) where
+    pub page_listing : text ≡ text_with (page_of file)
+    unfolding page_of
+    page_listing = is_done file says λ bytes e z. z ∙ rw e refl
+
+    pub text_fits : text.length ≤ 4096
+    text_fits = is_done file says λ bytes e z. rw z (omega (arith, listed_most file bytes e))
+
+    pub call_given : {front : List ℕ} → front ≡ take text.length text.bytes → (out : List ℕ) {r : Written} → r ≡ told_of (given front (length out)) → {full : List ℕ} → full ≡ filled_by out (given front (length out))
+        → (record { answer = r.answer; length = r.length } ≡ listed_of (list_call file out)) × (full ≡ list_filled (list_call file out) out)
+    unfolding list_call listed_of list_filled given told_of filled_by
+    call_given {front} taken out is f = is_done file says λ bytes e z.
+        let whole : front ≡ bytes = taken ∙ rw z (with_front bytes (omega (arith, listed_most file bytes e))) in
+        (rw (is, whole, e), f ∙ rw (whole, e))
+
 -- a page has at most 3,744 bytes, and so is a front of the buffer
 pub page_most : (file : List ℕ) → length (page_of file) ≤ 3744
 unfolding page_of
@@ -176,6 +273,14 @@ page_most file = go (listed file) refl
     go : (r : Result (List ℕ)) → listed file ≡ r → length (printed r) ≤ 3744
     go (done text) e = listed_most file text e
     go (refused reply place) e = omega (arith, refusal_most (reply_number reply) place)
+
+-- the text that is a page
+module _ (file : List ℕ) {text : Text} (is : text ≡ text_with (page_of file)) where
+  pub page_fits_text : text.length ≤ 4096
+  page_fits_text = rw is (omega (arith, page_most file))
+
+  pub page_front : {front : List ℕ} → front ≡ take text.length text.bytes → front ≡ page_of file
+  page_front taken = taken ∙ rw is (with_front (page_of file) (omega (arith, page_most file)))
 
 module _ (file : List ℕ) {before after : List ℕ} {size : ℕ} (room : length before ≡ 4096) (p : Printed before 0 (page_of file) after size) where
   pub page_fits : size ≤ length after

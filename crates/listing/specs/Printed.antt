@@ -1,13 +1,25 @@
 -- Text put into a buffer, and the text that a graph and a plan make.
-use Rattle.std.specs.Prelude.{ℕ, ◌+◌, ◌≡◌, List, ◌++◌, length}
+use Rattle.std.specs.Prelude.{ℕ, ◌+◌, ◌≡◌, List, ◌++◌, length, replicate}
 use Rattle.std.proofs.lemmas.List.Edits.{sets}
 use Rattle.graph.specs.declared.PrecedenceGraph.{PrecedenceGraph}
 use Rattle.listing.specs.Listing.{head_line, job_lines}
+use Rattle.listing.specs.declared.text.Text.{Text}
 
 -- the text stands in `after` from `at` on, up to `next`; elsewhere the buffer is as it was before
 pub record Printed (before : List ℕ) (at : ℕ) (text : List ℕ) (after : List ℕ) (next : ℕ) : Type 0 where
   pub stands : after ≡ sets before at text
   pub ends : next ≡ at + length text
+
+-- the same of a text that grows: the words come after what it has
+abbrev pub Put : Text → List ℕ → Text → Type 0
+Put before words after = Printed before.bytes before.length words after.bytes after.length
+
+-- a text with nothing in it, and one with just these bytes
+abbrev pub no_text : Text
+no_text = record { bytes = replicate 4096 0; length = 0 }
+
+abbrev pub text_with : List ℕ → Text
+text_with bytes = record { bytes = sets (replicate 4096 0) 0 bytes; length = length bytes }
 
 -- the listing of what `graph` returns, with a plan
 unfoldable pub text_by : PrecedenceGraph → List ℕ → List ℕ

@@ -4,12 +4,15 @@
 mod lines;
 mod text;
 
-ghost use Rattle.std.specs.Prelude.{◌≡◌, ◌≤◌, length, replicate};
-ghost use Rattle.listing.specs.Listing.{list_call, listed_of, list_filled, page_of};
-ghost use Rattle.listing.specs.Printed.{Printed, text_by};
+ghost use Rattle.std.specs.Prelude.{◌≡◌, ◌+◌, ◌≤◌, length};
+ghost use Rattle.reply.specs.Told.{told};
+ghost use Rattle.listing.specs.Listing.{listed, list_call, listed_of, list_filled, page_of};
+ghost use Rattle.listing.specs.Printed.{Printed, Put, text_by, text_with};
 
+use crate::text::Text;
 use graph::PrecedenceGraph;
-use reply::Answer;
+use network::Written;
+use reply::{Answer, Refusal};
 
 // What a call answers, and how many bytes of text it filled.
 #[derive(Clone, Copy)]
@@ -18,26 +21,26 @@ pub struct Listed {
     pub length: usize,
 }
 
-fn no_words() -> [u32; 256]
-    ensures { result ≡ replicate 256 0 }
+// The text of a graph and a plan, after what is there.
+fn put_listing(text: &mut Text, graph: &PrecedenceGraph, plan: &[u32; 256])
+    requires { (graph.now.job_count ≤ 128) × (text.old.length + length (text_by graph.now plan.now) ≤ 4096) }
+    ensures { Put text.old (text_by graph.now plan.now) text.new }
 {
-    [0; 256]
+    lines::put_head(text, graph.job_count, graph.frame, graph.edges);
+    lines::put_lines(text, graph.job_count as usize, &graph.jobs, plan);
 }
 
-fn no_text() -> [u8; 4096]
-    ensures { result ≡ replicate 4096 0 }
+// The text of a file's network and its plan.
+fn text_of(file: &[u8]) -> Result<Text, Refusal>
+    ensures { result ≡ told text_with (listed file.now) }
 {
-    [0; 4096]
-}
-
-// The text of a graph and a plan, from the front of a buffer.
-fn put_listing(text: &mut [u8; 4096], graph: PrecedenceGraph, plan: &[u32; 256]) -> usize
-    requires { (graph.job_count ≤ 128) × (length (text_by graph plan.now) ≤ 4096) }
-    ensures { Printed text.old 0 (text_by graph plan.now) text.new result }
-{
-    let at = lines::put_head(text, graph.job_count, graph.frame, graph.edges);
-    let jobs = graph.jobs;
-    lines::put_lines(text, at, graph.job_count as usize, jobs, plan)
+    let mut words = [0; 256];
+    let planned = plan::plan(file, 2, &mut words);
+    planned.ok()?;
+    let graph = graph::graph(file);
+    let mut text = Text::empty();
+    put_listing(&mut text, &graph, &words);
+    Ok(text)
 }
 
 // Lists a file's network: the text from the front of `out`.
@@ -45,20 +48,25 @@ pub fn list(file: &[u8], out: &mut [u8]) -> Listed
     ensures result { result ≡ listed_of (list_call file.now out.old) }
     ensures filled { out.new ≡ list_filled (list_call file.now out.old) out.old }
 {
-    let mut words = no_words();
-    let answer = plan::plan(file, 2, &mut words);
-    let reply = answer.reply;
-    if reply::number(reply) != 0 {
-        return Listed { answer, length: 0 };
+    match text_of(file) {
+        Ok(text) => {
+            let Written { answer, length } = writer::give(text.as_bytes(), out);
+            Listed { answer, length }
+        }
+        Err(refusal) => Listed {
+            answer: Answer::from(refusal),
+            length: 0,
+        },
     }
-    let graph = graph::graph(file);
-    let mut text = no_text();
-    let size = put_listing(&mut text, graph, &words);
-    let given = writer::give(&text[..size], out);
-    let told = given.answer;
-    Listed {
-        answer: told,
-        length: given.length,
+}
+
+// The listing of a file, or the line of its refusal.
+fn page_text(file: &[u8]) -> Text
+    ensures { result ≡ text_with (page_of file.now) }
+{
+    match text_of(file) {
+        Ok(text) => text,
+        Err(refusal) => lines::refusal_text(refusal),
     }
 }
 
@@ -66,12 +74,8 @@ pub fn list(file: &[u8], out: &mut [u8]) -> Listed
 pub fn page(file: &[u8], out: &mut [u8; 4096]) -> usize
     ensures { Printed out.old 0 (page_of file.now) out.new result }
 {
-    let listed = list(file, out);
-    let answer = listed.answer;
-    let reply = answer.reply;
-    let number = reply::number(reply);
-    if number == 0 {
-        return listed.length;
-    }
-    lines::put_refusal(out, number, answer.place)
+    let text = page_text(file);
+    let bytes = text.as_bytes();
+    out[..bytes.len()].copy_from_slice(bytes);
+    bytes.len()
 }

@@ -1,70 +1,57 @@
 // The lines of a listing: its head, and one for each job; and the line of a refusal.
-ghost use Rattle.std.specs.Prelude.{◌+◌, ◌≤◌, length};
+ghost use Rattle.std.specs.Prelude.{◌≡◌, ◌+◌, ◌≤◌, length};
+ghost use Rattle.reply.specs.Reply.{reply_number};
 ghost use Rattle.listing.specs.Listing.{line, numbers_of, head_line, job_lines, refusal_line};
-ghost use Rattle.listing.specs.Printed.{Printed};
+ghost use Rattle.listing.specs.Printed.{Put, text_with};
 
-use crate::text;
+use crate::text::Text;
 use graph::Job;
+use reply::Refusal;
 
-pub fn put_head(text: &mut [u8; 4096], jobs: u32, frame: u32, edges: u32) -> usize
-    requires { length (head_line jobs frame edges) ≤ 4096 }
-    ensures { Printed text.old 0 (head_line jobs frame edges) text.new result }
+pub fn put_head(text: &mut Text, jobs: u32, frame: u32, edges: u32)
+    requires { text.old.length + length (head_line jobs frame edges) ≤ 4096 }
+    ensures { Put text.old (head_line jobs frame edges) text.new }
 {
-    let at = text::put_words(text, 0, b"jobs ");
-    let at = text::put_decimal(text, at, jobs as u64);
-    let at = text::put_words(text, at, b" frame ");
-    let at = text::put_decimal(text, at, frame as u64);
-    let at = text::put_words(text, at, b" edges ");
-    text::put_number(text, at, edges, b'\n')
+    text.words(b"jobs ");
+    text.number(jobs as u64);
+    text.words(b" frame ");
+    text.number(frame as u64);
+    text.words(b" edges ");
+    text.field(edges, b'\n');
 }
 
-fn put_line(
-    text: &mut [u8; 4096],
-    from: usize,
-    number: u32,
-    job: Job,
-    processor: u32,
-    start: u32,
-) -> usize
-    requires { from + length (line (numbers_of number job processor start)) ≤ 4096 }
-    ensures { Printed text.old from (line (numbers_of number job processor start)) text.new result }
+fn put_line(text: &mut Text, number: u32, job: Job, processor: u32, start: u32)
+    requires { text.old.length + length (line (numbers_of number job processor start)) ≤ 4096 }
+    ensures { Put text.old (line (numbers_of number job processor start)) text.new }
 {
-    let at = text::put_number(text, from, number, b' ');
-    let at = text::put_number(text, at, job.process, b' ');
-    let at = text::put_number(text, at, job.release, b' ');
-    let at = text::put_number(text, at, job.deadline, b' ');
-    let at = text::put_number(text, at, job.budget, b' ');
-    let at = text::put_number(text, at, processor, b' ');
-    text::put_number(text, at, start, b'\n')
+    text.field(number, b' ');
+    text.field(job.process, b' ');
+    text.field(job.release, b' ');
+    text.field(job.deadline, b' ');
+    text.field(job.budget, b' ');
+    text.field(processor, b' ');
+    text.field(start, b'\n');
 }
 
 // The lines of the first n jobs.
-pub fn put_lines(
-    text: &mut [u8; 4096],
-    from: usize,
-    n: usize,
-    jobs: [Job; 128],
-    plan: &[u32; 256],
-) -> usize
-    requires { (n ≤ 128) × (from + length (job_lines jobs plan.now n) ≤ 4096) }
-    ensures { Printed text.old from (job_lines jobs plan.now n) text.new result }
+pub fn put_lines(text: &mut Text, n: usize, jobs: &[Job; 128], plan: &[u32; 256])
+    requires { (n ≤ 128) × (text.old.length + length (job_lines jobs.now plan.now n) ≤ 4096) }
+    ensures { Put text.old (job_lines jobs.now plan.now n) text.new }
 {
-    let mut at = from;
-    let mut j = 0usize;
-    while j < n {
-        let job = jobs[j];
-        at = put_line(text, at, j as u32, job, plan[2 * j], plan[2 * j + 1]);
-        j += 1;
+    for j in 0..n {
+        put_line(text, j as u32, jobs[j], plan[2 * j], plan[2 * j + 1]);
     }
-    at
 }
 
-pub fn put_refusal(text: &mut [u8; 4096], reply: u32, place: usize) -> usize
-    ensures { Printed text.old 0 (refusal_line reply place) text.new result }
+pub fn refusal_text(refusal: Refusal) -> Text
+    ensures { result ≡ text_with (refusal_line (reply_number refusal.reply) refusal.place) }
 {
-    let at = text::put_words(text, 0, b"refused ");
-    let at = text::put_decimal(text, at, reply as u64);
-    let at = text::put_words(text, at, b" at ");
-    let at = text::put_decimal(text, at, place as u64);
-    text::put_words(text, at, b"\n")
+    let number = u32::from(refusal.reply);
+    let mut text = Text::empty();
+    text.words(b"refused ");
+    text.number(number as u64);
+    text.words(b" at ");
+    text.number(refusal.place as u64);
+    text.words(b"\n");
+    text
 }

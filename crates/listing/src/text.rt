@@ -1,46 +1,59 @@
-// Text put into a buffer, piece by piece: digits, numbers in plain decimal, words. Each function returns the position after its piece.
-ghost use Rattle.std.specs.Prelude.{◌+◌, ◌≤◌, ◌<◌, ◌++◌, ◌∷◌, [], length};
-ghost use Rattle.listing.specs.Listing.{digit, decimal};
-ghost use Rattle.listing.specs.Printed.{Printed};
+// Text as it grows in a fixed buffer: words, and numbers in plain decimal.
+ghost use Rattle.std.specs.Prelude.{◌+◌, ◌≤◌, ◌<◌, ◌++◌, ◌∷◌, [], ◌≡◌, length, take};
+ghost use Rattle.listing.specs.Listing.{decimal};
+ghost use Rattle.listing.specs.Printed.{Put, no_text};
 
-fn put_digit(text: &mut [u8; 4096], from: usize, n: u64) -> usize
-    requires { (from < 4096) × (n < 10) }
-    ensures { Printed text.old from (digit n ∷ []) text.new result }
-{
-    text[from] = (48 + n) as u8;
-    from + 1
+// The text is the first `length` bytes.
+#[derive(Clone, Copy)]
+pub struct Text {
+    pub bytes: [u8; 4096],
+    pub length: usize,
 }
 
-// A number in plain decimal.
-pub fn put_decimal(text: &mut [u8; 4096], from: usize, n: u64) -> usize
-    requires { from + length (decimal n) ≤ 4096 }
-    ensures { Printed text.old from (decimal n) text.new result }
-{
-    if n < 10 {
-        return put_digit(text, from, n);
+impl Text {
+    pub fn empty() -> Text
+        ensures { result ≡ no_text }
+    {
+        Text {
+            bytes: [0; 4096],
+            length: 0,
+        }
     }
-    let at = put_decimal(text, from, n / 10);
-    put_digit(text, at, n % 10)
-}
 
-// A number, and a byte after it.
-pub fn put_number(text: &mut [u8; 4096], from: usize, n: u32, after: u8) -> usize
-    requires { from + length (decimal n) < 4096 }
-    ensures { Printed text.old from (decimal n ++ (after ∷ [])) text.new result }
-{
-    let at = put_decimal(text, from, n as u64);
-    text[at] = after;
-    at + 1
-}
-
-pub fn put_words(text: &mut [u8; 4096], from: usize, words: &[u8]) -> usize
-    requires { from + length words.now ≤ 4096 }
-    ensures { Printed text.old from words.now text.new result }
-{
-    let mut i = 0usize;
-    while i < words.len() {
-        text[from + i] = words[i];
-        i += 1;
+    // The text so far.
+    pub fn as_bytes(&self) -> &[u8]
+        requires { self.now.length ≤ 4096 }
+        ensures { result.now ≡ take self.now.length self.now.bytes }
+    {
+        let bytes = &self.bytes[..];
+        &bytes[..self.length]
     }
-    from + i
+
+    pub fn words(&mut self, words: &[u8])
+        requires { self.old.length + length words.now ≤ 4096 }
+        ensures { Put self.old words.now self.new }
+    {
+        let end = self.length + words.len();
+        let bytes = &mut self.bytes[..];
+        bytes[self.length..end].copy_from_slice(words);
+        self.length = end;
+    }
+
+    // A number in plain decimal.
+    // Kept: `itoa` and not `write!`, which may give an `Err` whatever the writer, as its contract goes, and `list` promises the text.
+    pub fn number(&mut self, n: u64)
+        requires { self.old.length + length (decimal n) ≤ 4096 }
+        ensures { Put self.old (decimal n) self.new }
+    {
+        self.words(itoa::Buffer::new().format(n).as_bytes());
+    }
+
+    // A number, and a byte after it.
+    pub fn field(&mut self, n: u32, after: u8)
+        requires { self.old.length + length (decimal n) < 4096 }
+        ensures { Put self.old (decimal n ++ (after ∷ [])) self.new }
+    {
+        self.number(n as u64);
+        self.words(&[after]);
+    }
 }

@@ -1,6 +1,5 @@
+mod ValuesLoop
 mod JobLoop
 mod SampleLoop
-mod ValuesLoop
-mod KindsLoop
 mod HeldLoops
 pub mod Locality

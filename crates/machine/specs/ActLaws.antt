@@ -1,12 +1,12 @@
 -- The code's steps make up an action: what each leaves in variables and words, and what the job then keeps.
-use Rattle.std.specs.Prelude.{◌≡◌, ℕ, ◌+◌, ◌-◌, ◌*◌, ◌%◌, ◌^◌, ◌<◌, ◌≤◌, ◌≢◌, List, slice_index, slice_set}
+use Rattle.std.specs.Prelude.{◌≡◌, ℕ, ◌+◌, ◌-◌, ◌*◌, ◌%◌, ◌^◌, ◌<◌, ◌≤◌, ◌≢◌, Option, unwrap_or, is_some, List, slice_index, slice_set}
+use Rattle.std.specs.Int.{from_bool}
 use Rattle.std.proofs.Common.{sym, ◌∙◌, add-zero}
 use borrow.Author.Tests.{eq-eqb, ne_eqb}
 use Rattle.network.specs.Net.{Net}
 use Rattle.machine.specs.Actions.{effect, output_after, skipped}
 use Rattle.machine.specs.Words.{state_by, SoundWords, ReadFrom, WrittenTo}
 use Rattle.machine.specs.Acting.{Operands, KindsOf, Effected, Acted}
-use Rattle.machine.specs.declared.words.Value.{Value}
 use Rattle.machine.specs.declared.Sample.{Sample}
 use Rattle.machine.specs.declared.Under.{Under}
 use Rattle.machine.specs.declared.Action.{Action}
@@ -50,10 +50,10 @@ module _ {action : Action} (o : Operands action) where
 -- ---- channels
 
 module _ (p : ℕ) (kinds variables words after : List ℕ) (ch : ℕ) where
-  pub read_done : (b c : ℕ) (r : Value) → ReadFrom ch (slice_index kinds (2 * ch)) words after r
-      → Effected (Read ch b c) p kinds variables words (slice_set (slice_set variables (8 * p + b) r.value) (8 * p + c) r.flag) after
+  pub read_done : (b c : ℕ) {given : Option ℕ} → ReadFrom ch (slice_index kinds (2 * ch)) words after given
+      → Effected (Read ch b c) p kinds variables words (slice_set (slice_set variables (8 * p + b) (unwrap_or given 0)) (8 * p + c) (from_bool (is_some given))) after
   unfolding effect
-  read_done b c r told = record {
+  read_done b c told = record {
     sound = told.sound;
     state = λ net x k. rw (told.value, told.flag, told.contents, k.kind ch);
   }

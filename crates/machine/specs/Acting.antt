@@ -1,5 +1,5 @@
 -- What the code of an action needs, and what it does: its operands, the tables that it is lent, the variables and words afterwards.
-use Rattle.std.specs.Prelude.{◌≡◌, ℕ, ◌+◌, ◌*◌, ◌^◌, ◌<◌, ◌≤◌, List, length, slice_index, slice_index_or}
+use Rattle.std.specs.Prelude.{◌≡◌, ℕ, ◌+◌, ◌*◌, ◌^◌, ◌<◌, ◌≤◌, List, [], ◌∷◌, length, slice_index, slice_index_or}
 use Rattle.network.specs.Net.{Net, no_channel}
 use Rattle.network.specs.declared.Channel.{Channel}
 use Rattle.machine.specs.State.{nothing}
@@ -21,6 +21,11 @@ Operands (Input a b) = (a < 8) × (b < 8)
 Operands (Output a) = a < 8
 Operands (Skip a n) = (a < 8) × (n ≤ 24)
 Operands Unknown = Unit {0}
+
+-- of each channel its kind and its capacity, one after another
+unfoldable pub kinds_in : List Channel → List ℕ
+kinds_in [] = []
+kinds_in (x ∷ l) = x.kind ∷ x.capacity ∷ kinds_in l
 
 -- the kinds are those of a network: for each channel its kind and its capacity
 pub record KindsOf (net : Net) (kinds : List ℕ) : Type 0 where

@@ -1,8 +1,7 @@
 -- Reads and writes on the struct of a channel are those on what it holds.
-use Rattle.std.specs.Prelude.{◌≡◌, ℕ, zero, suc, ◌+◌, ◌-◌, ◌%◌, ◌<◌, ◌≤◌, cond, ◌≢◌, List, [], ◌∷◌, ◌++◌, length, ◌==◌, slice_index, slice_index_or, slice_set}
+use Rattle.std.specs.Prelude.{◌≡◌, ℕ, zero, suc, ◌+◌, ◌-◌, ◌%◌, ◌<◌, ◌≤◌, ◌≢◌, Some, None, List, [], ◌∷◌, ◌++◌, length, ◌==◌, slice_index, slice_index_or, slice_set}
 use Rattle.std.proofs.Math.Path.{refl, ap, ap₂}
 use Rattle.std.proofs.Common.{sym, ◌∙◌, ext_get_or}
-use Rattle.std.proofs.Math.Decide.{ℕ_discrete}
 use native.Mathlib.Omega.{arith}
 use Rattle.std.proofs.Math.ListN.{length-set}
 use Rattle.std.proofs.Math.Seq.{get_or-set_same, get_or-set_other}
@@ -12,7 +11,7 @@ use Rattle.network.specs.Lists.{table}
 use Rattle.network.specs.ListLaws.{length_table, get_or_table}
 use Rattle.network.specs.ChainsSame.{table_same}
 use Rattle.machine.specs.State.{after_read, after_write}
-use Rattle.machine.specs.ChannelTold.{Sound, held_by, TakenFrom, PutInto, placed}
+use Rattle.machine.specs.ChannelTold.{Sound, held_by, TakenFrom, PutInto}
 use Rattle.machine.specs.declared.Channel.{Channel}
 
 table_front : {A : Type 0} (n : ℕ) (f : ℕ → A) → table (suc n) f ≡ f 0 ∷ table n (λ k. f (suc k))
@@ -54,7 +53,7 @@ module _ (c : Channel) where
   -- ---- a read
 
   module _ (s : Sound c) (kind : ℕ) where
-    pub taken_none : c.length ≡ 0 → TakenFrom c kind (record { channel = c; value = 0; flag = 0 })
+    pub taken_none : c.length ≡ 0 → TakenFrom c kind c None
     unfolding after_read
     taken_none e = record {
       sound = s;
@@ -63,7 +62,7 @@ module _ (c : Channel) where
       flag = rw (held_none e);
     }
 
-    pub taken_board : c.length ≢ 0 → kind ≡ 1 → TakenFrom c kind (record { channel = c; value = slice_index c.values c.head; flag = 1 })
+    pub taken_board : c.length ≢ 0 → kind ≡ 1 → TakenFrom c kind c (Some (slice_index c.values c.head))
     unfolding after_read
     taken_board n k = record {
       sound = s;
@@ -72,7 +71,7 @@ module _ (c : Channel) where
       flag = rw (held_front s.head n);
     }
 
-    pub taken_queue : c.length ≢ 0 → kind ≢ 1 → TakenFrom c kind (record { channel = shorter; value = slice_index c.values c.head; flag = 1 })
+    pub taken_queue : c.length ≢ 0 → kind ≢ 1 → TakenFrom c kind shorter (Some (slice_index c.values c.head))
     unfolding after_read
     taken_queue n k = record {
       sound = record { places = s.places; head = omega arith; most = omega (arith, s.most) };
@@ -93,7 +92,7 @@ module _ (c : Channel) where
         let z : (c.head + 0) % 8 ≡ c.head = omega (arith, s.head) in
         ap (λ (v : ℕ). v ∷ []) (ap (λ (k : ℕ). slice_index (slice_set c.values c.head value) k) z ∙ get_or-set_same c.values c.head value 0 (omega (arith, s.places, s.head)))
 
-    put_board : kind ≡ 1 → PutInto c kind capacity value as_board
+    pub put_board : kind ≡ 1 → PutInto c kind capacity value as_board
     unfolding after_write
     put_board k = record {
       sound = record { places = length-set c.values c.head value ∙ s.places; head = s.head; most = omega arith };
@@ -113,7 +112,7 @@ module _ (c : Channel) where
         (table_same c.length _ _ (λ k h. get_or-set_other c.values ((c.head + c.length) % 8) ((c.head + k) % 8) value 0 (λ e. omega arith)))
         (get_or-set_same c.values ((c.head + c.length) % 8) value 0 (omega (arith, s.places)))
 
-    put_queue : kind ≢ 1 → c.length < capacity → capacity ≤ 8 → PutInto c kind capacity value longer
+    pub put_queue : kind ≢ 1 → c.length < capacity → capacity ≤ 8 → PutInto c kind capacity value longer
     unfolding after_write
     put_queue k l m = record {
       sound = record { places = length-set c.values _ value ∙ s.places; head = s.head; most = omega arith };
@@ -133,25 +132,3 @@ module _ (c : Channel) where
       sound = record { places = s.places; head = s.head; most = s.most };
       contents = rw (ne_eqb kind 1 k, held_count, le-ltb c.length capacity l, full_holds);
     }
-
--- ---- the values, place by place
-
-set_at : (values : List ℕ) (at value k : ℕ) → k < length values → cond (at == k) value (slice_index values k) ≡ slice_index (slice_set values at value) k
-set_at values at value k h = elim (ℕ_discrete at k) [
-  | yes e ↦ rw (eq-eqb at k e, e) (sym (get_or-set_same values k value 0 h))
-  | no d ↦ rw (ne_eqb at k d) (sym (get_or-set_other values at k value 0 (λ e. d (sym e))))
-]
-
-placed_set : (values : List ℕ) (at value : ℕ) → length values ≡ 8 → placed values at value ≡ slice_set values at value
-placed_set values at value e =
-    table_same 8 (λ k. cond (at == k) value (slice_index values k)) (λ k. slice_index (slice_set values at value) k) (λ k h. set_at values at value k (omega arith))
-    ∙ table_list (slice_set values at value) 8 (length-set values at value ∙ e)
-
-module _ (c : Channel) (s : Sound c) (kind capacity value : ℕ) {written : List ℕ} where
-  pub board_written : written ≡ placed c.values c.head value → kind ≡ 1
-      → PutInto c kind capacity value (record { values = written; head = c.head; length = 1; loss = c.loss })
-  board_written e k = rw (e, placed_set c.values c.head value s.places) (put_board c s kind capacity value k)
-
-  pub queue_written : written ≡ placed c.values ((c.head + c.length) % 8) value → kind ≢ 1 → c.length < capacity → capacity ≤ 8
-      → PutInto c kind capacity value (record { values = written; head = c.head; length = c.length + 1; loss = c.loss })
-  queue_written e k l m = rw (e, placed_set c.values ((c.head + c.length) % 8) value s.places) (put_queue c s kind capacity value k l m)

@@ -14,6 +14,7 @@ pub mod Words
 pub mod WordLaws
 pub mod StartLaws
 pub mod Acting
+pub mod KindLaws
 pub mod ActLaws
 pub mod Jobs
 pub mod GoodActions

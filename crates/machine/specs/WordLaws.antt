@@ -1,5 +1,5 @@
 -- A channel stored is there when it is loaded, and no other channel is touched.
-use Rattle.std.specs.Prelude.{◌≡◌, ℕ, zero, suc, ◌+◌, ◌*◌, ◌<◌, ◌≤◌, ◌≢◌, ◌⊎◌, List, [], ◌∷◌, length, slice_index, slice_index_or, slice_set, refl}
+use Rattle.std.specs.Prelude.{◌≡◌, ℕ, zero, suc, ◌+◌, ◌*◌, ◌<◌, ◌≤◌, ◌≢◌, ◌⊎◌, Option, List, [], ◌∷◌, length, slice_index, slice_index_or, slice_set, refl}
 use Rattle.std.proofs.Math.Path.{sym, ap, subst}
 use Rattle.std.proofs.Common.{◌∙◌, add-zero, add-suc, suc-add, add-one, arith, length-set, length-append, get_or-set_same, get_or-set_other, get_or-append-add}
 use Rattle.std.proofs.Math.Logic.{inl, inr}
@@ -16,7 +16,6 @@ use Rattle.machine.specs.ChannelLaws.{table_list}
 use Rattle.machine.specs.ChannelTold.{Sound, contents_by, TakenFrom, PutInto}
 use Rattle.machine.specs.Words.{channel_at, numbers_of, stored, contents_in, SoundWords, ReadFrom, WrittenTo}
 use Rattle.machine.specs.declared.Channel.{Channel}
-use Rattle.machine.specs.declared.channels.Taken.{Taken}
 
 -- ---- runs of numbers
 
@@ -143,11 +142,10 @@ contents_at words i h = get_or_table 16 _ i nothing h
 -- ---- the calls
 
 module _ (words : List ℕ) (i : ℕ) (h : i < 16) (w : SoundWords words) where
-  pub read_from : (kind : ℕ) (t : Taken) → TakenFrom (channel_at words i) kind t
-      → ReadFrom i kind words (stored words i t.channel) (record { value = t.value; flag = t.flag })
-  read_from kind t r = record {
-    sound = stored_sound words w.size i t.channel h r.sound w;
-    contents = stored_contents words w.size i t.channel h r.sound ∙ rw (contents_at words i h, r.contents);
+  pub read_from : (kind : ℕ) (left : Channel) (given : Option ℕ) → TakenFrom (channel_at words i) kind left given → ReadFrom i kind words (stored words i left) given
+  read_from kind left given r = record {
+    sound = stored_sound words w.size i left h r.sound w;
+    contents = stored_contents words w.size i left h r.sound ∙ rw (contents_at words i h, r.contents);
     value = rw (contents_at words i h) r.value;
     flag = rw (contents_at words i h) r.flag;
   }

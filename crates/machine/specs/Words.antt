@@ -1,11 +1,11 @@
 -- Sixteen channels as 192 numbers, twelve for each: eight values, head, length, loss, and one to spare.
-use Rattle.std.specs.Prelude.{◌≡◌, ℕ, ◌+◌, ◌*◌, ◌<◌, List, [], ◌∷◌, ◌++◌, length, get_or, slice_index, slice_index_or, slice_set}
+use Rattle.std.specs.Prelude.{◌≡◌, ℕ, ◌+◌, ◌*◌, ◌<◌, Option, unwrap_or, is_some, List, [], ◌∷◌, ◌++◌, length, get_or, slice_index, slice_index_or, slice_set}
+use Rattle.std.specs.Int.{from_bool}
 use Rattle.std.proofs.lemmas.List.Edits.{sets}
 use Rattle.network.specs.Lists.{table}
 use Rattle.machine.specs.State.{Contents, State, nothing, oldest, flag, after_read, after_write}
 use Rattle.machine.specs.ChannelTold.{Sound, contents_by}
 use Rattle.machine.specs.declared.Channel.{Channel}
-use Rattle.machine.specs.declared.words.Value.{Value}
 
 -- channel i
 unfoldable pub channel_at : List ℕ → ℕ → Channel
@@ -36,12 +36,12 @@ pub record SoundWords (words : List ℕ) : Type 0 where
   pub size : length words ≡ 192
   pub sound : (i : ℕ) → i < 16 → Sound (channel_at words i)
 
--- channel i was read: value, flag and the words afterwards
-pub record ReadFrom (i kind : ℕ) (words after : List ℕ) (r : Value) : Type 0 where
+-- channel i was read: the words afterwards, and the value that the read gave
+pub record ReadFrom (i kind : ℕ) (words after : List ℕ) (given : Option ℕ) : Type 0 where
   pub sound : SoundWords after
   pub contents : contents_in after ≡ slice_set (contents_in words) i (after_read kind (slice_index_or (contents_in words) i nothing))
-  pub value : r.value ≡ oldest (get_or (contents_in words) i nothing).held
-  pub flag : r.flag ≡ flag (get_or (contents_in words) i nothing).held
+  pub value : unwrap_or given 0 ≡ oldest (get_or (contents_in words) i nothing).held
+  pub flag : from_bool (is_some given) ≡ flag (get_or (contents_in words) i nothing).held
 
 -- channel i was written: the words afterwards
 pub record WrittenTo (i kind capacity value : ℕ) (words after : List ℕ) : Type 0 where

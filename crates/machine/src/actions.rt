@@ -5,6 +5,7 @@ ghost use Rattle.machine.specs.Actions.{decode};
 
 use crate::Action;
 
+#[tactic(auto, unfolding(crate::specs::Actions::decode))]
 pub fn decode(head: u32, a: u32, b: u32, c: u32) -> Action
     ensures { result ≡ decode (record { head = head; a = a; b = b; c = c }) }
 {

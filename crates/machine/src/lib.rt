@@ -5,16 +5,20 @@ pub mod actions;
 mod channels;
 pub mod report;
 pub mod samples;
-pub mod tables;
 mod transfers;
 mod variables;
 mod words;
 
-ghost use Rattle.machine.specs.Acting.{Able, Acted};
+ghost use Rattle.std.specs.Prelude.{◌≡◌, replicate, slice_index};
+ghost use Rattle.machine.specs.Acting.{kinds_in, Able, Acted};
 ghost use Rattle.machine.specs.Jobs.{Runs, JobDone, Goes, Went};
+ghost use Rattle.machine.specs.WholeJob.{started};
+
+use network::Network;
 
 // One action. Operands name variables 0 to 7 of the process, a channel, a number, or how many actions to skip.
-#[derive(Clone, Copy)]
+// Kept: `Unknown`, and no `Option<Action>`. The definitions `decode` (specs/Actions.antt) and `program_of`, of which the promises speak, say it of four numbers that are no action.
+#[derive(Clone, Copy, Debug, PartialEq, Eq)]
 pub enum Action {
     Set { a: u32, number: u32 },
     Add { a: u32, b: u32, c: u32 },
@@ -28,14 +32,16 @@ pub enum Action {
 }
 
 // A job's input or output: `present` is 0 or 1, and `value` is 0 where it is not present.
-#[derive(Clone, Copy)]
+// Kept: two numbers, and no `Option<u32>`. The definitions `sample_at`, `good_sample` and `effect` speak of both: a lent sample may say 2, and an input action puts `present` into a variable.
+#[derive(Clone, Copy, Debug, PartialEq, Eq)]
 pub struct Sample {
     pub present: u32,
     pub value: u32,
 }
 
 // A queue or a board: `length` values from place `head` on, round the eight places, oldest first; and how many writes met it full.
-#[derive(Clone, Copy)]
+// Kept: a length beside eight places. A channel has fixed memory, and its values go round the places.
+#[derive(Clone, Copy, Debug, PartialEq, Eq)]
 pub struct Channel {
     pub values: [u32; 8],
     pub head: u32,
@@ -44,19 +50,77 @@ pub struct Channel {
 }
 
 // What a job under way keeps for itself: the number of its next action, and what it has output so far.
-#[derive(Clone, Copy)]
+#[derive(Clone, Copy, Debug, PartialEq, Eq)]
 pub struct Under {
     pub at: usize,
     pub output: Sample,
 }
 
-// What a run returns of a channel: how many values it holds, the values, oldest first and zeros after them, and the loss count.
-#[repr(C)]
+// What the actions of a run read: the actions of each process as numbers, how many it has, and the channels.
 #[derive(Clone, Copy)]
+pub struct Tables {
+    pub program: [u32; 1152],
+    pub counts: [u32; 12],
+    pub channels: [network::Channel; 16],
+}
+
+// What they change: the variables of the processes, eight for each, and the channels as numbers, twelve for each.
+#[derive(Clone, Copy, Debug, PartialEq, Eq)]
+pub struct State {
+    pub variables: [u32; 96],
+    pub words: [u32; 192],
+}
+
+// What a run returns of a channel: how many values it holds, the values, oldest first and zeros after them, and the loss count.
+// Kept: a number beside eight places. C is given it, by `fppn_zero_delay` and `fppn_turns`.
+#[repr(C)]
+#[derive(Clone, Copy, Debug, PartialEq, Eq)]
 pub struct Held {
     pub number: u32,
     pub values: [u32; 8],
     pub loss: u32,
+}
+
+impl Under {
+    // Of a job at its start.
+    pub fn start() -> Under
+        ensures { result ≡ started }
+    {
+        Under {
+            at: 0,
+            output: Sample {
+                present: 0,
+                value: 0,
+            },
+        }
+    }
+}
+
+impl Tables {
+    // Those of a network.
+    pub fn of(network: &Network) -> Tables
+        ensures program { result.program ≡ network.now.actions }
+        ensures counts { result.counts ≡ network.now.action_counts }
+        ensures channels { result.channels ≡ network.now.channels }
+    {
+        Tables {
+            program: network.actions,
+            counts: network.action_counts,
+            channels: network.channels,
+        }
+    }
+}
+
+impl State {
+    // What a run starts from: no values in variables and channels.
+    pub fn empty() -> State
+        ensures { result ≡ record { variables = replicate 96 0; words = replicate 192 0 } }
+    {
+        State {
+            variables: [0; 96],
+            words: [0; 192],
+        }
+    }
 }
 
 // One action of a job of process p that is under way.
@@ -65,33 +129,30 @@ pub fn act(
     p: usize,
     under: Under,
     input: Sample,
-    kinds: &[u32; 32],
-    variables: &mut [u32; 96],
-    words: &mut [u32; 192],
+    tables: &Tables,
+    state: &mut State,
 ) -> Under
-    requires { Able action p under kinds.now words.old }
-    ensures { Acted action p under input kinds.now variables.old words.old variables.new words.new result }
+    requires { Able action p under (kinds_in tables.now.channels) state.old.words }
+    ensures { Acted action p under input (kinds_in tables.now.channels) state.old.variables state.old.words state.new.variables state.new.words result }
 {
     let at = under.at + 1;
     let output = under.output;
     match action {
-        Action::Set { a, number } => variables::set(variables, p, a, number),
-        Action::Add { a, b, c } => variables::add(variables, p, a, b, c),
-        Action::Subtract { a, b, c } => variables::subtract(variables, p, a, b, c),
-        Action::Read { channel, b, c } => transfers::read(
-            channel, b, c, p, kinds, variables, words,
-        ),
-        Action::Write { channel, b } => transfers::write(channel, b, p, kinds, variables, words),
-        Action::Input { a, b } => transfers::input(input, a, b, p, variables),
+        Action::Set { a, number } => variables::set(&mut state.variables, p, a, number),
+        Action::Add { a, b, c } => variables::add(&mut state.variables, p, a, b, c),
+        Action::Subtract { a, b, c } => variables::subtract(&mut state.variables, p, a, b, c),
+        Action::Read { channel, b, c } => transfers::read(channel, b, c, p, tables, state),
+        Action::Write { channel, b } => transfers::write(channel, b, p, tables, state),
+        Action::Input { a, b } => transfers::input(input, a, b, p, &mut state.variables),
         Action::Output { a } => {
-            let value = variables::get(variables, p, a);
+            let value = variables::get(&state.variables, p, a);
             return Under {
                 at,
                 output: Sample { present: 1, value },
             };
         }
         Action::Skip { a, n } => {
-            if variables::get(variables, p, a) == 0 {
+            if variables::get(&state.variables, p, a) == 0 {
                 return Under {
                     at: at + n as usize,
                     output,
@@ -105,46 +166,36 @@ pub fn act(
 
 // A job of process p goes on, action after action, until its place is `until` or later: a whole job from its start, or one action of a job under way.
 pub fn go_on(
-    program: &[u32; 1152],
+    tables: &Tables,
     p: usize,
     until: usize,
     from: Under,
     input: Sample,
-    kinds: &[u32; 32],
-    variables: &mut [u32; 96],
-    words: &mut [u32; 192],
+    state: &mut State,
 ) -> Under
-    requires { Goes program.now p until from kinds.now words.old }
-    ensures { Went program.now p until from input kinds.now variables.old words.old variables.new words.new result }
+    requires { Goes tables.now.program p until from (kinds_in tables.now.channels) state.old.words }
+    ensures { Went tables.now.program p until from input (kinds_in tables.now.channels) state.old.variables state.old.words state.new.variables state.new.words result }
 {
     let mut under = from;
     while under.at < until {
-        let action = actions::fetch(program, p, under.at);
-        under = act(action, p, under, input, kinds, variables, words);
+        let action = actions::fetch(&tables.program, p, under.at);
+        under = act(action, p, under, input, tables, state);
     }
     under
 }
 
-// A whole job of process p, whose program has so many actions: what it outputs.
-pub fn job(
-    program: &[u32; 1152],
-    p: usize,
-    count: usize,
-    input: Sample,
-    kinds: &[u32; 32],
-    variables: &mut [u32; 96],
-    words: &mut [u32; 192],
-) -> Sample
-    requires { Runs program.now p count kinds.now words.old }
-    ensures { JobDone program.now p count input kinds.now variables.old words.old variables.new words.new result }
+// A whole job of process p: what it outputs.
+pub fn job(tables: &Tables, p: usize, input: Sample, state: &mut State) -> Sample
+    requires { Runs tables.now.program p (slice_index tables.now.counts p) (kinds_in tables.now.channels) state.old.words }
+    ensures { JobDone tables.now.program p (slice_index tables.now.counts p) input (kinds_in tables.now.channels) state.old.variables state.old.words state.new.variables state.new.words result }
 {
-    let start = Under {
-        at: 0,
-        output: Sample {
-            present: 0,
-            value: 0,
-        },
-    };
-    let under = go_on(program, p, count, start, input, kinds, variables, words);
-    under.output
+    go_on(
+        tables,
+        p,
+        tables.counts[p] as usize,
+        Under::start(),
+        input,
+        state,
+    )
+    .output
 }

@@ -11,18 +11,13 @@ fn held_of(channel: Channel) -> Held
     requires { Sound channel }
     ensures { result ≡ held_of (contents_by channel) }
 {
-    let head = channel.head;
-    let number = channel.length;
     let mut values = [0; 8];
-    let mut k = 0u32;
-    while k < number {
-        let at = ((head + k) % 8) as usize;
-        let value = channel.values[at];
-        values[k as usize] = value;
-        k += 1;
+    for k in 0..channel.length {
+        let at = (channel.head + k) % 8;
+        values[k as usize] = channel.values[at as usize];
     }
     Held {
-        number,
+        number: channel.length,
         values,
         loss: channel.loss,
     }
@@ -45,12 +40,8 @@ pub fn held(words: &[u32; 192]) -> [Held; 16]
     ensures { result ≡ map held_of (contents_in words.now) }
 {
     let mut all = no_held();
-    let mut i = 0usize;
-    while i < 16 {
-        let channel = words::load(words, i);
-        let one = held_of(channel);
-        all[i] = one;
-        i += 1;
+    for i in 0..16 {
+        all[i] = held_of(words::load(words, i));
     }
     all
 }

@@ -1,12 +1,11 @@
 // Samples in a lent table, two numbers for each: present (0 or 1) and value (0 where it is not present).
 ghost use Rattle.std.specs.Prelude.{◌≡◌, ◌+◌, ◌*◌, ◌≤◌, length};
 ghost use Rattle.std.proofs.lemmas.List.Edits.{sets};
-ghost use Rattle.reply.specs.Result.{answer_of};
+ghost use Rattle.reply.specs.Told.{judged};
 ghost use Rattle.machine.specs.Samples.{sample_at, sample_words, good_sample, ok_samples};
-ghost use Rattle.machine.specs.declared.Sample.{Sample};
 
 use crate::Sample;
-use reply::{Answer, Reply};
+use reply::{Refusal, Reply};
 
 // Sample k.
 pub fn get(table: &[u32], k: usize) -> Sample
@@ -29,35 +28,25 @@ pub fn put(table: &mut [u32], k: usize, sample: Sample)
 }
 
 // Whether a run takes a sample.
-fn good(present: u32, value: u32) -> bool
-    ensures { result ≡ good_sample (record { present = present; value = value }) }
+#[tactic(auto, unfolding(crate::specs::Samples::good_sample))]
+fn good(sample: Sample) -> bool
+    ensures { result ≡ good_sample sample }
 {
-    if present == 1 {
-        return true;
-    }
-    if present == 0 {
-        return value == 0;
-    }
-    false
+    sample.present == 1 || sample.present == 0 && sample.value == 0
 }
 
 // The first `count` samples, in order: reply 16 at the index of the first that is wrong.
-pub fn judge(input: &[u32], count: usize) -> Answer
+pub fn judge(input: &[u32], count: usize) -> Result<(), Refusal>
     requires { (count ≤ 12800) × (2 * count ≤ length input.now) }
-    ensures { result ≡ answer_of (ok_samples count input.now) }
+    ensures { result ≡ judged (ok_samples count input.now) }
 {
-    let mut k = 0usize;
-    while k < count {
-        if !good(input[2 * k], input[2 * k + 1]) {
-            return Answer {
+    for k in 0..count {
+        if !good(get(input, k)) {
+            return Err(Refusal {
                 reply: Reply::BadSample,
                 place: k,
-            };
+            });
         }
-        k += 1;
     }
-    Answer {
-        reply: Reply::Done,
-        place: 0,
-    }
+    Ok(())
 }

@@ -17,21 +17,13 @@ pub fn set(variables: &mut [u32; 96], p: usize, a: u32, x: u32)
     variables[8 * p + a as usize] = x;
 }
 
-// b less c, modulo 2^32.
-fn difference(b: u32, c: u32) -> u32
-    ensures { result ≡ (b + (2 ^ 32 - c)) % 2 ^ 32 }
-{
-    std::num::wrapping_sub_u32(b, c)
-}
-
 // Variable a becomes the sum of b and c, modulo 2^32.
 pub fn add(variables: &mut [u32; 96], p: usize, a: u32, b: u32, c: u32)
     requires { (p < 12) × (a < 8) × (b < 8) × (c < 8) }
     ensures { variables.new ≡ slice_set variables.old (8 * p + a) ((slice_index variables.old (8 * p + b) + slice_index variables.old (8 * p + c)) % 2 ^ 32) }
 {
-    let left = get(variables, p, b);
-    let right = get(variables, p, c);
-    set(variables, p, a, std::num::wrapping_add_u32(left, right));
+    let sum = get(variables, p, b).wrapping_add(get(variables, p, c));
+    set(variables, p, a, sum);
 }
 
 // Variable a becomes b less c, modulo 2^32.
@@ -39,7 +31,6 @@ pub fn subtract(variables: &mut [u32; 96], p: usize, a: u32, b: u32, c: u32)
     requires { (p < 12) × (a < 8) × (b < 8) × (c < 8) }
     ensures { variables.new ≡ slice_set variables.old (8 * p + a) ((slice_index variables.old (8 * p + b) + (2 ^ 32 - slice_index variables.old (8 * p + c))) % 2 ^ 32) }
 {
-    let left = get(variables, p, b);
-    let right = get(variables, p, c);
-    set(variables, p, a, difference(left, right));
+    let difference = get(variables, p, b).wrapping_sub(get(variables, p, c));
+    set(variables, p, a, difference);
 }

@@ -1,4 +1,5 @@
 // Channels in a lent array of numbers, twelve for each.
+// Kept: numbers, and no array of channels. `stored_same`, `stored_other` and `stored_contents` (specs/WordLaws.antt), `start_sound` and `start_contents` (specs/StartLaws.antt), which docs/PROMISES.md names, say what is in these words.
 ghost use Rattle.std.specs.Prelude.{◌≡◌, ◌+◌, ◌<◌, ◌≤◌, slice_index, slice_index_or};
 ghost use Rattle.std.proofs.lemmas.List.Edits.{sets};
 ghost use Rattle.network.specs.Lists.{table};
@@ -8,23 +9,15 @@ ghost use Rattle.machine.specs.Words.{channel_at, stored, contents_in, SoundWord
 
 use crate::{Channel, channels};
 
-// What a read gives: with nothing there both are 0.
-#[derive(Clone, Copy)]
-pub struct Value {
-    pub value: u32,
-    pub flag: u32,
-}
-
 // The eight numbers from a place on.
+// Kept: number by number. Tried: `copy_from_slice` here and in `store_values`; a run that reads and writes channels takes half as long again (1.7 times ordinary Rust, not 1.1).
 fn load_values(words: &[u32; 192], at: usize) -> [u32; 8]
     requires { at ≤ 184 }
     ensures { result ≡ table 8 (λ k. slice_index words.now (at + k)) }
 {
-    let mut values = [0u32; 8];
-    let mut k = 0usize;
-    while k < 8 {
+    let mut values = [0; 8];
+    for k in 0..8 {
         values[k] = words[at + k];
-        k += 1;
     }
     values
 }
@@ -34,10 +27,8 @@ fn store_values(words: &mut [u32; 192], at: usize, values: [u32; 8])
     requires { at ≤ 184 }
     ensures { words.new ≡ sets words.old at (table 8 (λ k. slice_index values k)) }
 {
-    let mut k = 0usize;
-    while k < 8 {
+    for k in 0..8 {
         words[at + k] = values[k];
-        k += 1;
     }
 }
 
@@ -47,9 +38,8 @@ pub fn load(words: &[u32; 192], i: usize) -> Channel
     ensures { result ≡ channel_at words.now i }
 {
     let at = i * 12;
-    let values = load_values(words, at);
     Channel {
-        values,
+        values: load_values(words, at),
         head: words[at + 8],
         length: words[at + 9],
         loss: words[at + 10],
@@ -62,26 +52,20 @@ pub fn store(words: &mut [u32; 192], i: usize, channel: Channel)
     ensures { words.new ≡ stored words.old i channel }
 {
     let at = i * 12;
-    let values = channel.values;
-    store_values(words, at, values);
+    store_values(words, at, channel.values);
     words[at + 8] = channel.head;
     words[at + 9] = channel.length;
     words[at + 10] = channel.loss;
 }
 
-// Reads channel i.
-pub fn read(words: &mut [u32; 192], i: usize, kind: u32) -> Value
+// Reads channel i: the value, if there is one.
+pub fn read(words: &mut [u32; 192], i: usize, kind: u32) -> Option<u32>
     requires { (i < 16) × SoundWords words.old }
     ensures { ReadFrom i kind words.old words.new result }
 {
-    let channel = load(words, i);
-    let taken = channels::take(channel, kind);
-    let left = taken.channel;
+    let (left, given) = channels::take(load(words, i), kind);
     store(words, i, left);
-    Value {
-        value: taken.value,
-        flag: taken.flag,
-    }
+    given
 }
 
 // Writes a value into channel i.
@@ -89,7 +73,6 @@ pub fn write(words: &mut [u32; 192], i: usize, kind: u32, capacity: u32, value: 
     requires { (i < 16) × SoundWords words.old × (capacity ≤ 8) × ((slice_index_or (contents_in words.old) i nothing).loss < 4294967295) }
     ensures { WrittenTo i kind capacity value words.old words.new }
 {
-    let channel = load(words, i);
-    let after = channels::put(channel, kind, capacity, value);
+    let after = channels::put(load(words, i), kind, capacity, value);
     store(words, i, after);
 }

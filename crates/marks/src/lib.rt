@@ -6,7 +6,7 @@ ghost use Rattle.marks.specs.Row.{no_marks, marked, with_of, or_of, without_of, 
 
 // Mark k is bit k of the low word; from 64 on, bit k - 64 of the high word.
 #[repr(C)]
-#[derive(Clone, Copy)]
+#[derive(Clone, Copy, Debug, PartialEq, Eq)]
 pub struct Row {
     pub low: u64,
     pub high: u64,
@@ -74,16 +74,13 @@ impl Row {
     pub fn inside(self, other: Row) -> bool
         ensures { result ≡ inside_of self other }
     {
-        if (self.low & other.low) == self.low {
-            return (self.high & other.high) == self.high;
-        }
-        false
+        (self.low & other.low) == self.low && (self.high & other.high) == self.high
     }
 
     // How many marks the row has.
     pub fn count(self) -> u32
         ensures { result ≡ count_of self }
     {
-        u64::count_ones(self.low) + u64::count_ones(self.high)
+        self.low.count_ones() + self.high.count_ones()
     }
 }

@@ -1,6 +1,5 @@
-mod Ends
 mod Multiples
 mod FrameLoops
 mod RowSteps
-mod Actions
 mod PairMarks
+mod AnyRange

@@ -1,5 +1,5 @@
 -- The search for a common multiple: `at` steps through the multiples of the larger number.
-use Prim.Native.Nat.{ℕ, ◌+◌, ◌-◌, ◌%◌, ◌≤◌, ◌<◌}
+use Prim.Native.Nat.{ℕ, ◌+◌, ◌-◌, ◌%◌, ◌≤◌, ◌<◌, min, max}
 use mathlib.Core.Path.{◌≡◌, sym, ap, subst, ◌∙◌}
 use mathlib.Core.Bool.{false}
 use native.Mathlib.Decide.{dec_lt, ℕ_discrete}
@@ -8,7 +8,7 @@ use native.Mathlib.Omega.{arith}
 use lib.Dec.{eqb}
 use borrow.Author.Tests.{eq-eqb, ne_eqb}
 use Rattle.reply.specs.Tests.{both_true, split}
-use Rattle.network.specs.FrameLaws.{shared, common_multiple, common_is}
+use Rattle.network.specs.FrameLaws.{shared, common_multiple, common_is, common_either_way}
 
 -- `at` is a multiple, and no number below it is one that both divide
 pub record Reached (large small at : ℕ) : Type 0 where
@@ -85,3 +85,16 @@ module _ (large small : ℕ) where
     before = λ h b l. not_second h (λ e. let m : h % small ≡ h = ap (λ (k : ℕ). h % k) z ∙ mod-zero h in omega arith);
     passes = λ h. absurd (omega arith);
   })
+
+-- of the larger and the smaller, whichever is which
+pub common_sorted : (a b large small r : ℕ) → large ≡ max a b → small ≡ min a b → r ≡ common_multiple large small → r ≡ common_multiple a b
+common_sorted a b large small r l s e = elim (dec_lt a b) [
+  | yes h ↦
+      let x : large ≡ b = omega arith in
+      let y : small ≡ a = omega arith in
+      e ∙ rw (x, y) (common_either_way b a)
+  | no h ↦
+      let x : large ≡ a = omega arith in
+      let y : small ≡ b = omega arith in
+      e ∙ rw (x, y)
+]

@@ -1,15 +1,15 @@
 -- The pairs of a struct marked in rows one by one; and the chains that they make.
-use Prim.Native.Nat.{ℕ, ◌+◌, ◌≤◌, ◌<◌, min}
+use Prim.Native.Nat.{ℕ, ◌+◌, ◌≤◌, ◌<◌}
 use mathlib.Core.Path.{◌≡◌, refl, sym, ap, subst, ◌∙◌}
 use mathlib.Core.Bool.{Bool, true, false, ◌&&◌, ◌||◌}
 use mathlib.Core.List.{List}
-use native.Mathlib.Decide.{dec_lt, ℕ_discrete}
+use native.Mathlib.Decide.{ℕ_discrete}
 use native.Mathlib.Numerals.{add-one}
 use native.Mathlib.Omega.{arith}
 use lib.ListN.{length, get_or, set, take, replicate, get_or-replicate}
 use lib.Seq.{get_or-set_same, get_or-set_other, take-suc}
 use lib.Dec.{eqb}
-use borrow.Author.Tests.{lt-ltb, le-ltb, eq-eqb, ne_eqb, eqb-true}
+use borrow.Author.Tests.{eq-eqb, ne_eqb, eqb-true}
 use Rattle.reply.specs.Tests.{same_test}
 use Rattle.marks.specs.Row.{marked, no_marks, with_of}
 use Rattle.marks.specs.Laws.{marked_none, marked_with}
@@ -20,29 +20,15 @@ use Rattle.network.specs.RowChains.{Leads}
 use Rattle.network.specs.Pairs.{no_pair, same_pair, is_pair, aheads}
 use Rattle.network.specs.PairLaws.{pair_none, pair_more}
 use Rattle.network.specs.Net.{within}
-use Rattle.network.specs.AheadTold.{with_pair, PairAdded, MarksPairs, count_of, AheadTold}
+use Rattle.network.specs.AheadTold.{PairAdded, MarksPairs, count_of, AheadTold}
 use Rattle.network.specs.declared.Pair.{Pair}
 use Rattle.network.specs.declared.Network.{Network}
-use Rattle.network.specs.ListLaws.{take_lesser}
 
 or_false : (b : Bool) → (b || false) ≡ b
 or_false true = refl
 or_false false = refl
 
 -- ---- one pair
-
-module _ (pair : Pair) (row : Row) where
-  pub pair_marked : (more : Row) → pair.higher < 12 → pair.lower < 12 → more ≡ with_of row pair.lower → more ≡ with_pair pair row
-  unfolding with_pair
-  pair_marked more h l e = rw (lt-ltb pair.higher 12 h, lt-ltb pair.lower 12 l) e
-
-  pub pair_left_lower : pair.higher < 12 → 12 ≤ pair.lower → row ≡ with_pair pair row
-  unfolding with_pair
-  pair_left_lower h l = rw (lt-ltb pair.higher 12 h, le-ltb pair.lower 12 l)
-
-  pub pair_left_higher : 12 ≤ pair.higher → row ≡ with_pair pair row
-  unfolding with_pair
-  pair_left_higher h = rw (le-ltb pair.higher 12 h)
 
 module _ (pair : Pair) (old : List Row) where
   -- it is marked
@@ -85,30 +71,6 @@ module _ (pair : Pair) (old : List Row) where
       and_false true = refl
       and_false false = refl
 
-  -- where its row is no other than it was, all are
-  kept : (at : ℕ) (more : Row) → length old ≡ 12 → at < 12 → more ≡ get_or old at no_marks → PairAdded pair old old → PairAdded pair old (set old at more)
-  kept at more size h e p = record {
-    marks = λ a b ha hb. ap (λ (r : Row). marked r b) (elim (ℕ_discrete a at) [
-      | yes z ↦ subst (λ x. get_or (set old at more) x no_marks ≡ get_or old x no_marks) (sym z) (get_or-set_same old at more no_marks (omega (arith, size)) ∙ e)
-      | no d ↦ get_or-set_other old at a more no_marks d
-    ]) ∙ p.marks a b ha hb;
-  }
-
-  -- it is marked or left out
-  pub marked_or_not : (at : ℕ) (more : Row) → length old ≡ 12 → at ≡ min pair.higher 11 → more ≡ with_pair pair (get_or old at no_marks) → PairAdded pair old (set old at more)
-  unfolding with_pair
-  marked_or_not at more size e w = elim (dec_lt pair.higher 12) [
-    | yes h ↦ elim (dec_lt pair.lower 12) [
-      | yes l ↦
-          let z : at ≡ pair.higher = omega arith in
-          subst (λ x. PairAdded pair old (set old x more)) (sym z)
-          (added more size h l (w ∙ rw (lt-ltb pair.higher 12 h, lt-ltb pair.lower 12 l, z)))
-      | no l ↦
-          kept at more size (omega arith) (w ∙ rw (lt-ltb pair.higher 12 h, le-ltb pair.lower 12 (omega arith))) (left_out_lower (omega arith))
-    ]
-    | no h ↦ kept at more size (omega arith) (w ∙ rw (le-ltb pair.higher 12 (omega arith))) (left_out_higher (omega arith))
-  ]
-
 -- ---- the first i pairs
 
 module _ (pairs : List Pair) where
@@ -129,13 +91,6 @@ module _ (pairs : List Pair) where
         ∙ sym (ap (λ (l : List Pair). is_pair l a b) (ap (λ (k : ℕ). take k pairs) (add-one i) ∙ take-suc pairs i no_pair h) ∙ pair_more (take i pairs) (get_or pairs i no_pair) a b);
   }
 
-  pub pairs_end : (i count : ℕ) (rows : List Row) → i ≤ count → count ≤ i → MarksPairs (take i pairs) rows → MarksPairs (take count pairs) rows
-  pairs_end i count rows h l m = let z : count ≡ i = omega arith in rw z m
-
-  -- as many as a count of the struct says
-  pub pairs_counted : (count most : ℕ) (rows : List Row) → length pairs ≡ 66 → most ≡ min count 66 → MarksPairs (take most pairs) rows → MarksPairs (take count pairs) rows
-  pairs_counted count most rows size e m = subst (λ l. MarksPairs l rows) (take_lesser pairs count most 66 size e) m
-
 -- ---- where chains lead
 
 -- where chains of marks lead, when the marks are pairs
@@ -146,7 +101,7 @@ leads_pairs n pairs rows ends small m l a b ha hb =
     l.marks a b ha hb
     ∙ ap (λ (t : Relation). holds t a b) (chains_same n (λ a b. marked (get_or rows a no_marks) b) (is_pair pairs) (λ i k hi hk. m.marks i k (omega arith) (omega arith)))
 
-pub ahead_within : (network : Network) (n : ℕ) (rows ends : List Row) → n ≡ min network.process_count 12 → MarksPairs (take network.pair_count network.pairs) rows
+pub ahead_within : (network : Network) (n : ℕ) (rows ends : List Row) → n ≡ count_of network → MarksPairs (within network).pairs rows
     → Leads n (λ a b. marked (get_or rows a no_marks) b) n ends → AheadTold network ends
 unfolding within
 ahead_within network n rows ends e m l =

@@ -1,16 +1,12 @@
 -- Rows of marks from the pairs of a struct, and from the chains of its pairs.
-use Rattle.std.specs.Prelude.{ℕ, ◌<◌, min, ◌≡◌, cond, ◌&&◌, ◌||◌, List, get_or, ltb}
-use Rattle.marks.specs.Row.{marked, no_marks, with_of}
+use Rattle.std.specs.Prelude.{ℕ, ◌<◌, min, ◌≡◌, ◌||◌, List, get_or}
+use Rattle.marks.specs.Row.{marked, no_marks}
 use Rattle.marks.specs.declared.Row.{Row}
 use Rattle.network.specs.Chains.{holds}
 use Rattle.network.specs.Pairs.{same_pair, is_pair, aheads}
 use Rattle.network.specs.Net.{within}
 use Rattle.network.specs.declared.Pair.{Pair}
 use Rattle.network.specs.declared.Network.{Network}
-
--- the row of a pair's higher process with the pair marked, where both are below 12
-unfoldable pub with_pair : Pair → Row → Row
-with_pair pair row = cond (ltb pair.higher 12 && ltb pair.lower 12) (with_of row pair.lower) row
 
 -- below 12, one pair more is marked
 pub record PairAdded (pair : Pair) (old new : List Row) : Type 0 where

@@ -13,19 +13,12 @@ pub fn most_capacity(kind: u32) -> u32
 }
 
 // Two processes of n with a pair of their own, the one way or the other.
+#[tactic(auto, unfolding(crate::specs::Told::ends_by, crate::specs::Pairs::apart))]
 pub fn are_paired(rows: [Row; 12], n: u32, writer: u32, reader: u32) -> bool
     requires { n ≤ 12 }
     ensures { result ≡ ends_by n rows writer reader }
 {
-    if pairs::are_apart(n, writer, reader) {
-        let w = writer as usize;
-        let r = reader as usize;
-        let there = rows[w];
-        if there.has(r) {
-            return true;
-        }
-        let back = rows[r];
-        return back.has(w);
-    }
-    false
+    let w = writer as usize;
+    let r = reader as usize;
+    pairs::are_apart(n, writer, reader) && (rows[w].has(r) || rows[r].has(w))
 }

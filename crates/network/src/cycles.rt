@@ -1,5 +1,7 @@
 // Chains in rows of marks: mark b of row a is a step from a to b, and a cycle is a chain of steps that leads from a number to itself.
-ghost use Rattle.std.specs.Prelude.{◌≡◌, ◌≤◌, get_or};
+// Kept: the table whole and a number of at most 12, since `Leads` speaks of any table; a type for the two would say `n ≤ 12` in another place.
+ghost use Rattle.std.specs.Prelude.{◌≡◌, ◌≤◌, get_or, length};
+ghost use Rattle.std.specs.List.{list_any, range_with_len};
 ghost use Rattle.reply.specs.Tools.{any};
 ghost use Rattle.marks.specs.Row.{marked, no_marks};
 ghost use Rattle.network.specs.Chains.{holds, chains};
@@ -8,13 +10,11 @@ ghost use Rattle.network.specs.RowChains.{joined, Leads};
 use marks::Row;
 
 // The marks of the row and, where it has mark k, those of row k, which is `via`.
+#[tactic(auto, unfolding(crate::specs::RowChains::joined))]
 fn join(row: Row, k: usize, via: Row) -> Row
     ensures { result ≡ joined k via row }
 {
-    if row.has(k) {
-        return row.or(via);
-    }
-    row
+    if row.has(k) { row.or(via) } else { row }
 }
 
 // Where chains of steps lead, among the first n: each row joined with row k, for one k after another.
@@ -23,19 +23,20 @@ pub fn lead(rows: [Row; 12], n: usize) -> [Row; 12]
     ensures { Leads n (λ a b. marked (get_or rows a no_marks) b) n result }
 {
     let mut out = rows;
-    let mut k = 0usize;
-    while k < n {
+    for k in 0..n {
         let via = out[k];
-        let mut a = 0usize;
-        while a < n {
-            let row = out[a];
-            let new = join(row, k, via);
-            out[a] = new;
-            a += 1;
+        for row in &mut out[..n] {
+            *row = join(*row, k, via);
         }
-        k += 1;
     }
     out
+}
+
+// Whether one of the rows has its own mark.
+fn leads_back(rows: &[Row]) -> bool
+    ensures { result ≡ list_any (λ a. marked (get_or rows.now a no_marks) a) (range_with_len 0 (length rows.now)) }
+{
+    (0..rows.len()).any(|a| rows[a].has(a))
 }
 
 // Whether a chain leads from one of the first n to itself.
@@ -44,13 +45,5 @@ pub fn has_cycle(rows: [Row; 12], n: usize) -> bool
     ensures { result ≡ any n (λ a. holds (chains n (λ a b. marked (get_or rows a no_marks) b)) a a) }
 {
     let ends = lead(rows, n);
-    let mut a = 0usize;
-    while a < n {
-        let row = ends[a];
-        if row.has(a) {
-            return true;
-        }
-        a += 1;
-    }
-    false
+    leads_back(&ends[..n])
 }

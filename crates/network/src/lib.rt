@@ -5,11 +5,10 @@ mod ahead;
 pub mod channels;
 pub mod cycles;
 pub mod frame;
-pub mod numbers;
 pub mod pairs;
 pub mod programs;
 
-ghost use Rattle.std.specs.Prelude.{◌≡◌};
+ghost use Rattle.std.specs.Prelude.{◌≡◌, length, min};
 ghost use Rattle.network.specs.Frame.{frame_length};
 ghost use Rattle.network.specs.Net.{within};
 ghost use Rattle.network.specs.AheadTold.{AheadTold};
@@ -19,7 +18,7 @@ use reply::Answer;
 
 // One process: its period, the jobs it releases each time, and each job's relative deadline and budget, in ticks.
 #[repr(C)]
-#[derive(Clone, Copy)]
+#[derive(Clone, Copy, Debug, PartialEq, Eq)]
 pub struct Process {
     pub period: u32,
     pub burst: u32,
@@ -28,15 +27,16 @@ pub struct Process {
 }
 
 #[repr(C)]
-#[derive(Clone, Copy)]
+#[derive(Clone, Copy, Debug, PartialEq, Eq)]
 pub struct Pair {
     pub higher: u32,
     pub lower: u32,
 }
 
 // Kind 0 is a queue, 1 a board.
+// Kept: the kind is a number, since C sees the struct (`fppn_read`).
 #[repr(C)]
-#[derive(Clone, Copy)]
+#[derive(Clone, Copy, Debug, PartialEq, Eq)]
 pub struct Channel {
     pub kind: u32,
     pub writer: u32,
@@ -45,7 +45,7 @@ pub struct Channel {
 }
 
 // The four numbers of an action.
-#[derive(Clone, Copy)]
+#[derive(Clone, Copy, Debug, PartialEq, Eq)]
 pub struct Four {
     pub head: u32,
     pub a: u32,
@@ -54,8 +54,9 @@ pub struct Four {
 }
 
 // Zero past the counts. Action k of process p stands at 96 * p + 4 * k of `actions`.
+// Kept: arrays with counts beside them, since C sees the struct (`fppn_read`) and memory is fixed; `processes`, `pairs` and `channels` below give them as slices.
 #[repr(C)]
-#[derive(Clone, Copy)]
+#[derive(Clone, Copy, Debug, PartialEq, Eq)]
 pub struct Network {
     pub process_count: u32,
     pub processes: [Process; 12],
@@ -68,33 +69,57 @@ pub struct Network {
 }
 
 // What the reader returns; the network is all zero when the file is refused.
-#[derive(Clone, Copy)]
+// Kept: an answer beside it and no `Result`, since `read_file`, which `reader::read` promises, is a Loaded, and theorem `read_careful` speaks of its zeros.
+#[derive(Clone, Copy, Debug, PartialEq, Eq)]
 pub struct Loaded {
     pub answer: Answer,
     pub network: Network,
 }
 
 // What the writer returns: how many bytes it wrote.
-#[derive(Clone, Copy)]
+// Kept: an answer beside it and no `Result`, since `wrote`, which `writer::write` promises, is a Written, and theorem `write_careful` speaks of its zero.
+#[derive(Clone, Copy, Debug, PartialEq, Eq)]
 pub struct Written {
     pub answer: Answer,
     pub length: usize,
 }
 
+impl Network {
+    // The processes that the struct counts; a count that is too large counts all that there are.
+    pub fn processes(&self) -> &[Process]
+        ensures value { result.now ≡ (within self.now).processes }
+        ensures count { length result.now ≡ min self.now.process_count 12 }
+    {
+        &self.processes[..(self.process_count as usize).min(12)]
+    }
+
+    pub fn pairs(&self) -> &[Pair]
+        ensures value { result.now ≡ (within self.now).pairs }
+        ensures count { length result.now ≡ min self.now.pair_count 66 }
+    {
+        &self.pairs[..(self.pair_count as usize).min(66)]
+    }
+
+    pub fn channels(&self) -> &[Channel]
+        ensures value { result.now ≡ (within self.now).channels }
+        ensures count { length result.now ≡ min self.now.channel_count 16 }
+    {
+        &self.channels[..(self.channel_count as usize).min(16)]
+    }
+}
+
 // The length of the frame of a network, 2001 if it is above 2000.
-pub fn frame_of(network: Network) -> u32
-    ensures { result ≡ frame_length (within network).processes }
+pub fn frame_of(network: &Network) -> u32
+    ensures { result ≡ frame_length (within network.now).processes }
 {
-    let processes = network.processes;
-    frame::frame_of_count(processes, network.process_count)
+    frame::frame_length(network.processes())
 }
 
 // Which process comes before which: row a marks b where a chain of pairs leads from a to b.
-pub fn ahead_of(network: Network) -> [Row; 12]
-    ensures { AheadTold network result }
+pub fn ahead_of(network: &Network) -> [Row; 12]
+    ensures { AheadTold network.now result }
 {
-    let pairs = network.pairs;
-    let rows = ahead::rows_of_count(pairs, network.pair_count);
-    let n = numbers::lesser(network.process_count, 12);
+    let rows = ahead::rows_of(network.pairs());
+    let n = network.processes().len();
     cycles::lead(rows, n)
 }

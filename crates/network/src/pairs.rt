@@ -6,15 +6,11 @@ ghost use Rattle.network.specs.Pairs.{apart};
 use marks::Row;
 
 // Two processes of n, and not one.
+#[tactic(auto, unfolding(crate::specs::Pairs::apart))]
 pub fn are_apart(n: u32, a: u32, b: u32) -> bool
     ensures { result ≡ apart n a b }
 {
-    if a < n {
-        if b < n {
-            return a != b;
-        }
-    }
-    false
+    a < n && b < n && a != b
 }
 
 pub fn no_rows() -> [Row; 12]

@@ -1,9 +1,16 @@
 // What an action may be: its operands, kind by kind.
-ghost use Rattle.std.specs.Prelude.{◌≡◌, cond, ◌&&◌, ◌<◌, ltb, eqb};
+ghost use Rattle.std.specs.Prelude.{◌≡◌, ◌<◌};
 ghost use Rattle.network.specs.Read.{is_var, is_zero, is_skip};
-ghost use Rattle.network.specs.ProgramsTold.{Judged};
+ghost use Rattle.network.specs.ProgramsTold.{named, Judged};
 
 use crate::{Channel, Four};
+
+// The channel of this number, if there is one.
+pub fn named(channels: &[Channel], number: u32) -> Option<Channel>
+    ensures { result ≡ named channels.now number }
+{
+    channels.get(number as usize).copied()
+}
 
 fn is_var(a: u32) -> bool
     ensures { result ≡ is_var a }
@@ -17,79 +24,30 @@ fn is_zero(a: u32) -> bool
     a == 0
 }
 
-fn both(s: bool, t: bool) -> bool
-    ensures { result ≡ (s && t) }
-{
-    if s {
-        return t;
-    }
-    false
-}
-
-fn three(s: bool, t: bool, u: bool) -> bool
-    ensures { result ≡ (s && (t && u)) }
-{
-    both(s, both(t, u))
-}
-
-// The channel is known, and process p reads it.
-fn is_read(known: bool, channel: Channel, p: u32) -> bool
-    ensures { result ≡ (known && eqb channel.reader p) }
-{
-    both(known, channel.reader == p)
-}
-
-// The channel is known, and process p writes it.
-fn is_written(known: bool, channel: Channel, p: u32) -> bool
-    ensures { result ≡ (known && eqb channel.writer p) }
-{
-    both(known, channel.writer == p)
-}
-
 // Action k of n skips so many, at least one, and not past the end.
 fn is_skip(n: usize, k: usize, skipped: u32) -> bool
     requires { k < n }
     ensures { result ≡ is_skip n k skipped }
 {
     let left = n - (k + 1);
-    both(1 <= skipped, skipped as usize <= left)
+    1 <= skipped && skipped as usize <= left
 }
 
-// Whether action k of n of process p is good. `known` says whether its first operand names a channel, and `channel` which.
-pub fn good_action(four: Four, known: bool, channel: Channel, p: u32, n: usize, k: usize) -> bool
+// Whether action k of n of process p is good. `channel` is the one that its first operand names, if it names one.
+#[tactic(auto, unfolding(crate::specs::Read::good_action))]
+pub fn good_action(four: Four, channel: Option<Channel>, p: u32, n: usize, k: usize) -> bool
     requires { k < n }
-    ensures { Judged known channel p n k four result }
+    ensures { Judged channel p n k four result }
 {
-    let head = four.head;
+    let Four { head, a, b, c } = four;
     match head {
-        0 => both(is_var(four.a), is_zero(four.c)),
-        1 => three(is_var(four.a), is_var(four.b), is_var(four.c)),
-        2 => three(is_var(four.a), is_var(four.b), is_var(four.c)),
-        3 => three(is_read(known, channel, p), is_var(four.b), is_var(four.c)),
-        4 => three(
-            is_written(known, channel, p),
-            is_var(four.b),
-            is_zero(four.c),
-        ),
-        5 => three(is_var(four.a), is_var(four.b), is_zero(four.c)),
-        6 => three(is_var(four.a), is_zero(four.b), is_zero(four.c)),
-        7 => three(is_var(four.a), is_skip(n, k, four.b), is_zero(four.c)),
+        0 => is_var(a) && is_zero(c),
+        1 | 2 => is_var(a) && is_var(b) && is_var(c),
+        3 => channel.is_some_and(|read| read.reader == p) && is_var(b) && is_var(c),
+        4 => channel.is_some_and(|written| written.writer == p) && is_var(b) && is_zero(c),
+        5 => is_var(a) && is_var(b) && is_zero(c),
+        6 => is_var(a) && is_zero(b) && is_zero(c),
+        7 => is_var(a) && is_skip(n, k, b) && is_zero(c),
         _ => false,
     }
-}
-
-// Where the channel of this number stands; 0 if it is not known.
-pub fn place_of(known: bool, number: u32) -> usize
-    ensures { result ≡ cond known number 0 }
-{
-    if known {
-        return number as usize;
-    }
-    0
-}
-
-pub fn is_below(number: u32, count: usize) -> bool
-    ensures { result ≡ ltb number count }
-{
-    (number as usize) < count
 }

@@ -1,67 +1,66 @@
 -- Reading a number group by group: what the byte at a position says, and what the loop knows after some groups.
-use mathlib.Core.Path.{◌≡◌, refl, sym, ap, ◌∙◌}
-use mathlib.Core.Logic.{◌≢◌}
+use mathlib.Core.Path.{◌≡◌, refl, ◌∙◌}
+use mathlib.Core.Bool.{Bool, true, false}
 use mathlib.Core.List.{List}
 use Prim.Native.Nat.{ℕ, zero, suc, ◌+◌, ◌-◌, ◌*◌, ◌^◌, ◌%◌, ◌≤◌, ◌<◌}
+use native.Mathlib.Decide.{dec_lt}
 use native.Mathlib.Nat.{mul-le-mul_left, one-le-pow, pow-succ'}
 use native.Mathlib.Numerals.{add-one}
 use native.Mathlib.Omega.{arith}
 use lib.ListN.{length, get_or, drop, drop_of_length-le}
 use lib.Seq.{drop-cons}
-use borrow.Author.Tests.{lt-ltb, le-ltb, le-leb, lt-leb, ne_eqb}
+use borrow.Author.Tests.{lt-ltb, le-ltb}
+use Rattle.std.specs.Prelude.{Ok, Err, cond, eqb, ltb}
 use Rattle.reply.specs.Result.{Result, done, refused}
+use Rattle.reply.specs.ResultLaws.{refused_not}
+use Rattle.reply.specs.Tests.{split}
+use Rattle.reply.specs.declared.Reply.{Reply}
 use Rattle.reply.specs.declared.Reply.TheVariants.{FileEnds, MalformedNumber}
-use Rattle.number.specs.Parts.{Part, part}
-use Rattle.number.specs.Number.{plus, rest_from, number_from, number_at}
-use Rattle.number.specs.Told.{number_of}
-use Rattle.number.specs.declared.Number.TheVariants.{Value, Refused}
+use Rattle.reply.specs.declared.Refusal.{Refusal}
+use Rattle.number.specs.Parts.{Part, part, reading}
+use Rattle.number.specs.PartLaws.{same_part}
+use Rattle.number.specs.Number.{plus, group, fifth, rest_from, number_from, number_at}
+use Rattle.number.specs.Told.{further_at, part_told, part_ok, part_err}
 
 -- ---- the first group
 
-pub number_ends : (s : List ℕ) (at : ℕ) → length s ≤ at → Refused FileEnds at ≡ number_of (number_at s at)
+pub number_first : (s : List ℕ) (at : ℕ)
+    → number_at s at ≡ cond (ltb at (length s)) (group (get_or s at 0) at (rest_from at 3 (drop (at + 1) s) (at + 1))) (refused FileEnds at)
 unfolding number_at number_from
-number_ends s at h = rw (drop_of_length-le s h)
-
-module _ (s : List ℕ) (at b : ℕ) (e : b ≡ get_or s at 0) (h : at < length s) where
-  pub number_last : b < 128 → Value b (at + 1) ≡ number_of (number_at s at)
-  unfolding number_at number_from
-  number_last l = rw (drop-cons s at 0 h, ← e, lt-ltb b 128 l)
-
-  pub number_more : 128 ≤ b → plus (b % 128) 128 (rest_from at 3 (drop (at + 1) s) (at + 1)) ≡ number_at s at
-  unfolding number_at number_from
-  number_more l = rw (drop-cons s at 0 h, ← e, le-ltb b 128 l, add-one at)
+number_first s at = elim (dec_lt at (length s)) [
+  | yes h ↦ rw (lt-ltb at (length s) h, drop-cons s at 0 h, add-one at)
+  | no n ↦ let h : length s ≤ at = omega arith in rw (le-ltb at (length s) h, drop_of_length-le s h)
+]
 
 -- ---- a group after the first
 
-pub rest_ends : (start : ℕ) (s : List ℕ) (at more : ℕ) → length s ≤ at → rest_from start more (drop at s) at ≡ refused FileEnds start
-unfolding rest_from
-rest_ends start s at more h = rw (drop_of_length-le s h)
+unless : {A : Type 0} (t : Bool) (b next : ℕ) (reply : Reply) (place : ℕ) (k : ℕ → ℕ → Result A)
+    → cond t (refused reply place) (k b next) ≡ reading (cond t (refused reply place) (part b next)) k
+unless true b next reply place k = refl
+unless false b next reply place k = refl
 
-module _ (start : ℕ) (s : List ℕ) (at b : ℕ) (e : b ≡ get_or s at 0) (h : at < length s) where
-  pub rest_zero : (more : ℕ) → b ≡ 0 → rest_from start more (drop at s) at ≡ refused MalformedNumber start
+module _ (start : ℕ) (s : List ℕ) (at : ℕ) where
+  pub rest_group : (more : ℕ) → rest_from start (suc more) (drop at s) at ≡ reading (further_at s start at) λ b next. group b at (rest_from start more (drop next s) next)
   unfolding rest_from
-  rest_zero zero z = rw (drop-cons s at 0 h, ← e, z)
-  rest_zero (suc more) z = rw (drop-cons s at 0 h, ← e, z)
+  rest_group more = elim (dec_lt at (length s)) [
+    | yes h ↦ rw (drop-cons s at 0 h, lt-ltb at (length s) h, add-one at) (unless (eqb (get_or s at 0) 0) (get_or s at 0) (suc at) MalformedNumber start _)
+    | no n ↦ let h : length s ≤ at = omega arith in rw (drop_of_length-le s h, le-ltb at (length s) h)
+  ]
 
-  pub rest_last : (more : ℕ) → b ≢ 0 → b < 128 → rest_from start (suc more) (drop at s) at ≡ part b (at + 1)
+  pub rest_fifth : rest_from start 0 (drop at s) at ≡ reading (further_at s start at) λ b next. fifth start b at
   unfolding rest_from
-  rest_last more n l = rw (drop-cons s at 0 h, ← e, ne_eqb b 0 n, lt-ltb b 128 l)
+  rest_fifth = elim (dec_lt at (length s)) [
+    | yes h ↦ rw (drop-cons s at 0 h, lt-ltb at (length s) h, add-one at) (unless (eqb (get_or s at 0) 0) (get_or s at 0) (suc at) MalformedNumber start _)
+    | no n ↦ let h : length s ≤ at = omega arith in rw (drop_of_length-le s h, le-ltb at (length s) h)
+  ]
 
-  pub rest_further : (more : ℕ) → b ≢ 0 → 128 ≤ b → rest_from start (suc more) (drop at s) at ≡ plus (b % 128) 128 (rest_from start more (drop (at + 1) s) (at + 1))
-  unfolding rest_from
-  rest_further more n l = rw (drop-cons s at 0 h, ← e, ne_eqb b 0 n, le-ltb b 128 l, add-one at)
-
-  pub fifth_last : b ≢ 0 → b ≤ 15 → rest_from start 0 (drop at s) at ≡ part b (at + 1)
-  unfolding rest_from
-  fifth_last n l = rw (drop-cons s at 0 h, ← e, ne_eqb b 0 n, le-leb b 15 l)
-
-  pub fifth_over : b ≢ 0 → 15 < b → rest_from start 0 (drop at s) at ≡ refused MalformedNumber start
-  unfolding rest_from
-  fifth_over n l = rw (drop-cons s at 0 h, ← e, ne_eqb b 0 n, lt-leb b 15 l)
-
--- groups worth `low` before a rest that is a number, or none
-pub plus_is : (low weight : ℕ) {r s : Result (Part ℕ)} → r ≡ s → number_of (plus low weight s) ≡ number_of (plus low weight r)
-plus_is low weight e = ap (λ x. number_of (plus low weight x)) (sym e)
+  pub after_group : {b next : ℕ} → further_at s start at ≡ part b next → next ≡ at + 1
+  after_group {b} {next} e =
+      split (ltb at (length s))
+      (λ t. split (eqb (get_or s at 0) 0)
+      (λ z. refused_not (rw (t, z) at e))
+      (λ z. same_part (record { it = get_or s at 0; next = at + 1 }) (record { it = b; next = next }) (λ it n. n ≡ at + 1) (rw (t, z) at e) refl))
+      (λ t. refused_not (rw t at e))
 
 -- ---- the loop over the second to fourth group
 
@@ -92,33 +91,26 @@ scale_most scale more e =
     omega arith
 
 module _ {start : ℕ} {s : List ℕ} {whole : Result (Part ℕ)} {value scale at : ℕ} where
-  pub ends : {more : ℕ} → Reading start s whole value scale at more → length s ≤ at → Refused FileEnds start ≡ number_of whole
-  ends {more} w h = plus_is value scale (rest_ends start s at more h) ∙ sym (ap number_of w.rest)
+  pub cut : {e : Refusal} (more : ℕ) → Reading start s whole value scale at more → 0 < more → Err e ≡ part_told (further_at s start at) → Err e ≡ part_told whole
+  cut zero w m e = absurd (omega arith)
+  cut (suc more) w m e = rw (w.rest, rest_group start s at more, part_err (further_at s start at) e)
 
-  -- after the third, the fifth is to be read
-  pub after : (more : ℕ) → Reading start s whole value scale at more → more ≤ 0 → (value < 2 ^ 28) × (whole ≡ plus value (2 ^ 28) (rest_from start 0 (drop at s) at))
-  after zero w m = let z : scale ≡ 2 ^ 28 = omega (arith, w.scaled) in rw (← z) (w.below, w.rest)
-  after (suc more) w m = absurd (omega arith)
-
-  module _ {b : ℕ} (e : b ≡ get_or s at 0) (h : at < length s) where
-    pub zero_group : {more : ℕ} → Reading start s whole value scale at more → b ≡ 0 → Refused MalformedNumber start ≡ number_of whole
-    zero_group {more} w z = plus_is value scale (rest_zero start s at b e h more z) ∙ sym (ap number_of w.rest)
-
-    pub last_group : (more : ℕ) → Reading start s whole value scale at more → 0 < more → b ≢ 0 → b < 128 → Value (value + scale * (b % 128)) (at + 1) ≡ number_of whole
-    last_group zero w m n l = absurd (omega arith)
-    last_group (suc more) w m n l =
+  module _ {b next : ℕ} (got : Ok (b, next) ≡ part_told (further_at s start at)) where
+    pub last_group : (more : ℕ) → Reading start s whole value scale at more → 0 < more → b < 128 → Ok (value + scale * (b % 128), next) ≡ part_told whole
+    last_group zero w m l = absurd (omega arith)
+    last_group (suc more) w m l =
         let whole-byte : b % 128 ≡ b = omega arith in
-        rw whole-byte (plus_is value scale (rest_last start s at b e h more n l) ∙ sym (ap number_of w.rest))
+        rw (whole-byte, w.rest, rest_group start s at more, part_ok (further_at s start at) got, lt-ltb b 128 l, after_group start s at (part_ok (further_at s start at) got))
 
-    pub turn : (more : ℕ) → Reading start s whole value scale at more → 0 < more → b ≢ 0 → 128 ≤ b
-        → Reading start s whole (value + scale * (b % 128)) (scale * 128) (at + 1) (more - 1)
-    turn zero w m n l = absurd (omega arith)
-    turn (suc more) w m n l =
+    pub turn : (more : ℕ) → Reading start s whole value scale at more → 0 < more → 128 ≤ b
+        → Reading start s whole (value + scale * (b % 128)) (scale * 128) next (more - 1)
+    turn zero w m l = absurd (omega arith)
+    turn (suc more) w m l =
         let p : suc more - 1 ≡ more = omega arith in
         rw p (record {
           scaled = scale_turn scale more w.scaled;
           below = placed value scale (b % 128) 128 w.below (omega arith);
-          rest = w.rest ∙ rw (rest_further start s at b e h more n l) (plus_plus value scale (b % 128) (rest_from start more (drop (at + 1) s) (at + 1)));
+          rest = w.rest ∙ rw (rest_group start s at more, part_ok (further_at s start at) got, le-ltb b 128 l) (plus_plus value scale (b % 128) (rest_from start more (drop next s) next));
         })
 
   -- no sum wraps

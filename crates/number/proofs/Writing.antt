@@ -1,19 +1,22 @@
--- Writing a number: the loop over its groups, what it has written and what is left to write; and the answer, with room and without.
-use mathlib.Core.Path.{◌≡◌, refl, sym, ap, ◌∙◌}
+-- Writing a number: the loop over its groups, what it has written and what is left to write.
+use mathlib.Core.Path.{◌≡◌, refl}
 use mathlib.Core.List.{List}
-use Prim.Native.Nat.{ℕ, zero, suc, ◌+◌, ◌*◌, ◌/◌, ◌%◌, ◌^◌, ◌≤◌, ◌<◌}
+use Prim.Native.Nat.{ℕ, zero, suc, ◌+◌, ◌-◌, ◌*◌, ◌/◌, ◌%◌, ◌^◌, ◌≤◌, ◌<◌}
+use native.Mathlib.Decide.{dec_lt}
 use native.Mathlib.Nat.{pow-succ'}
 use native.Mathlib.Numerals.{add-one}
 use native.Mathlib.Omega.{arith}
 use lib.ListN.{length, set, length-set}
 use lib.Seq.{sets}
+use borrow.Author.Tests.{le-leb, lt-leb, leb-true}
+use Rattle.std.specs.Prelude.{Ok, Bool, true, false, leb}
+use Rattle.reply.specs.Result.{require}
+use Rattle.reply.specs.Call.{room_of}
+use Rattle.reply.specs.Told.{judged}
+use Rattle.reply.specs.declared.Reply.{Reply}
 use Rattle.reply.specs.declared.Reply.TheVariants.{ShortBuffer}
 use Rattle.number.specs.Encode.{groups, encode}
 use Rattle.number.specs.Groups.{groups_last, groups_more, groups_size}
-use Rattle.number.specs.Put.{put_at, after}
-use Rattle.number.specs.PutLaws.{put_short, after_short, put_room, after_room}
-use Rattle.number.specs.Told.{written_of}
-use Rattle.number.specs.declared.Written.TheVariants.{Next, Refused}
 
 -- of n, to be written from `from` on in out₀, the groups of `rest` are left, to be written from `at` on in out, with `more` after the next one at most
 pub record Writing (out₀ : List ℕ) (from n : ℕ) (out : List ℕ) (rest at more : ℕ) : Type 0 where
@@ -47,12 +50,18 @@ module _ {out₀ : List ℕ} {from n : ℕ} {out : List ℕ} {rest at : ℕ} whe
       → (at + 1 ≡ from + length (encode n)) × (set out at rest ≡ sets out₀ from (encode n))
   done {more} w h = (omega (arith, rw (groups_last more rest h) at w.ends), rw (groups_last more rest h) at w.writes)
 
--- ---- the answer
+-- ---- room for the groups
 
-module _ (out : List ℕ) (at : ℕ) (bytes : List ℕ) where
-  pub refuses : length out < at + length bytes → (Refused ShortBuffer 0 ≡ written_of (put_at out at bytes)) × (out ≡ after out at bytes)
-  refuses h = (ap written_of (sym (put_short out at bytes h)), sym (after_short out at bytes h))
+pub fits_room : (at size room : ℕ) → 0 < size → leb (at + size) room ≡ leb size (room - at)
+fits_room at size room h = elim (dec_lt room (at + size)) [
+  | yes l ↦ rw (lt-leb (at + size) room l, lt-leb size (room - at) (omega arith))
+  | no n ↦ rw (le-leb (at + size) room (omega arith), le-leb size (room - at) (omega arith))
+]
 
-  pub fills : {next : ℕ} {filled : List ℕ} → at + length bytes ≤ length out → next ≡ at + length bytes → filled ≡ sets out at bytes
-      → (Next next ≡ written_of (put_at out at bytes)) × (filled ≡ after out at bytes)
-  fills h n f = (ap Next n ∙ ap written_of (sym (put_room out at bytes h)), f ∙ sym (after_room out at bytes h))
+required : {u : Unit {0}} (test : Bool) (reply : Reply) (place : ℕ) → Ok u ≡ judged (require test reply place) → test ≡ true
+required true reply place e = refl
+required false reply place e = cc
+
+-- where there is room, the groups fit
+pub has_room : {u : Unit {0}} (at size room : ℕ) {width left : ℕ} → 0 < size → width ≡ size → left ≡ room - at → Ok u ≡ judged (room_of width left) → at + size ≤ room
+has_room at size room {width} {left} h w l e = omega (arith, leb-true width left (required (leb width left) ShortBuffer 0 e))

@@ -7,122 +7,77 @@ ghost use Rattle.std.proofs.lemmas.List.Edits.{sets};
 ghost use Rattle.number.specs.Number.{number_at, rest_from, plus};
 ghost use Rattle.number.specs.Encode.{encode};
 ghost use Rattle.number.specs.Put.{put_at, after};
-ghost use Rattle.number.specs.Told.{number_of, written_of};
+ghost use Rattle.number.specs.Told.{further_at, part_told, next_told};
 
-use reply::Reply;
-
-// What stands at a position of a file where a number is expected.
-#[derive(Clone, Copy)]
-pub enum Number {
-    // A number, and the position after its last group.
-    Value { value: u32, next: usize },
-    // None: reply 1 or 2, at the number's first byte.
-    Refused { reply: Reply, place: usize },
-}
-
-// What a write did.
-#[derive(Clone, Copy)]
-pub enum Written {
-    // All groups are written, up to this position.
-    Next { next: usize },
-    // None is, for want of room.
-    Refused { reply: Reply, place: usize },
-}
+use reply::{Refusal, Reply, calls};
 
 // The groups of seven bits that may stand between the first and the fifth.
 const MIDDLE: usize = 3;
 
-fn wide(b: u8) -> u32
-    ensures { result ≡ b }
+// A group after the first, at `at`, of a number that starts at `start`; and the position after it.
+fn further(file: &[u8], start: usize, at: usize) -> Result<(u32, usize), Refusal>
+    ensures { result ≡ part_told (further_at file.now start at) }
 {
-    b as u32
+    match file.get(at) {
+        Some(0) => Err(Refusal {
+            reply: Reply::MalformedNumber,
+            place: start,
+        }),
+        Some(&b) => Ok((u32::from(b), at + 1)),
+        None => Err(Refusal {
+            reply: Reply::FileEnds,
+            place: start,
+        }),
+    }
 }
 
 // The fifth group at `at`, of a number that starts at `start` and whose first four are worth `low`.
-fn read_fifth(file: &[u8], start: usize, at: usize, low: u32) -> Number
+fn read_fifth(file: &[u8], start: usize, at: usize, low: u32) -> Result<(u32, usize), Refusal>
     requires { low < 2 ^ 28 }
-    ensures { result ≡ number_of (plus low (2 ^ 28) (rest_from start 0 (drop at file.now) at)) }
+    ensures { result ≡ part_told (plus low (2 ^ 28) (rest_from start 0 (drop at file.now) at)) }
 {
-    if file.len() <= at {
-        return Number::Refused {
-            reply: Reply::FileEnds,
-            place: start,
-        };
-    }
-    let b = wide(file[at]);
-    if b == 0 {
-        return Number::Refused {
-            reply: Reply::MalformedNumber,
-            place: start,
-        };
-    }
+    let (b, next) = further(file, start, at)?;
     if b <= 15 {
-        return Number::Value {
-            value: low + 0x1000_0000 * b,
-            next: at + 1,
-        };
+        return Ok((low + 0x1000_0000 * b, next));
     }
-    Number::Refused {
+    Err(Refusal {
         reply: Reply::MalformedNumber,
         place: start,
-    }
+    })
 }
 
 // The groups from `from` on, of a number that starts at `start` and whose first group is worth `low`.
-fn read_rest(file: &[u8], start: usize, from: usize, low: u32) -> Number
+fn read_rest(file: &[u8], start: usize, from: usize, low: u32) -> Result<(u32, usize), Refusal>
     requires { low < 128 }
-    ensures { result ≡ number_of (plus low 128 (rest_from start 3 (drop from file.now) from)) }
+    ensures { result ≡ part_told (plus low 128 (rest_from start 3 (drop from file.now) from)) }
 {
     let mut value = low;
     let mut scale: u32 = 128;
     let mut at = from;
-    let mut left = MIDDLE;
-    while 0 < left {
-        if file.len() <= at {
-            return Number::Refused {
-                reply: Reply::FileEnds,
-                place: start,
-            };
-        }
-        let b = wide(file[at]);
-        if b == 0 {
-            return Number::Refused {
-                reply: Reply::MalformedNumber,
-                place: start,
-            };
-        }
+    for _ in 0..MIDDLE {
+        let (b, next) = further(file, start, at)?;
         value += scale * (b % 128);
         if b < 128 {
-            return Number::Value {
-                value,
-                next: at + 1,
-            };
+            return Ok((value, next));
         }
         scale *= 128;
-        at += 1;
-        left -= 1;
+        at = next;
     }
     read_fifth(file, start, at, value)
 }
 
 // The number at `at`.
-pub fn read_number(file: &[u8], at: usize) -> Number
-    ensures { result ≡ number_of (number_at file.now at) }
+pub fn read_number(file: &[u8], at: usize) -> Result<(u32, usize), Refusal>
+    ensures { result ≡ part_told (number_at file.now at) }
 {
-    if file.len() <= at {
-        return Number::Refused {
+    match file.get(at) {
+        Some(&b) if b < 128 => Ok((u32::from(b), at + 1)),
+        Some(&b) => read_rest(file, at, at + 1, u32::from(b % 128)),
+        None => Err(Refusal {
             reply: Reply::FileEnds,
             place: at,
-        };
+        }),
     }
-    let b = wide(file[at]);
-    if b < 128 {
-        return Number::Value {
-            value: b,
-            next: at + 1,
-        };
-    }
-    read_rest(file, at, at + 1, b % 128)
 }
 
 // How many groups n has.
@@ -150,6 +105,7 @@ pub fn put_groups(out: &mut [u8], from: usize, n: u32) -> usize
 {
     let mut rest = n;
     let mut at = from;
+    // Kept: it ends by what is left of the number, and `at` is counted beside it, since how many groups come is not known before.
     while 128 <= rest {
         out[at] = (128 + rest % 128) as u8;
         rest = rest / 128;
@@ -160,22 +116,10 @@ pub fn put_groups(out: &mut [u8], from: usize, n: u32) -> usize
 }
 
 // Writes n at `at`, or nothing where it does not fit.
-pub fn write_number(out: &mut [u8], at: usize, n: u32) -> Written
-    ensures value { result ≡ written_of (put_at out.old at (encode n)) }
+pub fn write_number(out: &mut [u8], at: usize, n: u32) -> Result<usize, Refusal>
+    ensures value { result ≡ next_told (put_at out.old at (encode n)) }
     ensures out_after { out.new ≡ after out.old at (encode n) }
 {
-    if out.len() < at {
-        return Written::Refused {
-            reply: Reply::ShortBuffer,
-            place: 0,
-        };
-    }
-    if out.len() - at < width(n) {
-        return Written::Refused {
-            reply: Reply::ShortBuffer,
-            place: 0,
-        };
-    }
-    let next = put_groups(out, at, n);
-    Written::Next { next }
+    calls::room(width(n), out.len().saturating_sub(at))?;
+    Ok(put_groups(out, at, n))
 }

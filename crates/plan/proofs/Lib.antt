@@ -1,7 +1,7 @@
 mod CheckCases
 mod CheckLoops
-mod PlanLoops
-mod Copying
+pub mod PlanLoops
+pub mod ToldSteps
 pub mod CheckLaws
 pub mod Promise
 pub mod CallLaws

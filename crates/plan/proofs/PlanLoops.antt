@@ -1,104 +1,119 @@
 -- The loops of the planner: the best number so far, the latest end so far, the earliest processor so far, and the jobs placed so far.
-use Prim.Native.Nat.{ℕ, zero, suc, ◌+◌, ◌*◌, ◌≤◌, ◌<◌, max}
-use mathlib.Core.Path.{◌≡◌, refl, sym, ap, subst, ◌∙◌}
-use mathlib.Core.Bool.{Bool, true, false, cond}
-use mathlib.Core.List.{List}
-use native.Mathlib.Numerals.{add-one}
-use native.Mathlib.Omega.{arith}
-use lib.ListN.{get_or, take, replicate}
-use borrow.Author.Tests.{lt-ltb, le-ltb}
+use Rattle.std.specs.Prelude.{ℕ, zero, suc, ◌+◌, ◌*◌, ◌≤◌, ◌<◌, max, ◌≡◌, refl, Bool, true, false, cond, List, take, Option, Some, None, IsSome, Ok, Err}
+use Rattle.std.specs.declared.result.Result as Std
+use Rattle.std.specs.Option.{option_map}
+use Rattle.std.proofs.Common.{sym, ap, subst, ◌∙◌, arith, add-one, get_or}
+use borrow.Author.Tests.{lt-ltb, le-ltb, ltb-true, ltb-false}
 use Rattle.reply.specs.Tools.{pick, better}
-use Rattle.reply.specs.Pick.{pick_zero, pick_suc, pick_most}
+use Rattle.reply.specs.Tests.{split}
+use Rattle.reply.specs.Pick.{pick_zero, pick_suc, pick_most, some_picked}
 use Rattle.reply.specs.Result.{done, refused}
-use Rattle.reply.specs.declared.Reply.TheVariants.{Done, MissesDeadline}
-use Rattle.marks.specs.Row.{marked, no_marks}
+use Rattle.reply.specs.declared.Refusal.{Refusal}
+use Rattle.marks.specs.Row.{marked}
 use Rattle.marks.specs.declared.Row.{Row}
 use Rattle.graph.specs.Work.{Work}
+use Rattle.graph.specs.declared.Framed.{Framed}
 use Rattle.plan.specs.Greatest.{greatest, greatest_zero, greatest_suc}
 use Rattle.plan.specs.Plan.{any_processor, planned_by}
-use Rattle.plan.specs.PlanTold.{ready_by, Columns, Tabled, Reached, After, Stepped, AllPlaced}
+use Rattle.plan.specs.PlanTold.{picked_of, beats, LeastOf, ready_by, Tabled, Reached, After, Stepped, AllPlaced}
 use Rattle.plan.specs.PlanSteps.{none_reached, all_planned, one_misses}
-use Rattle.plan.specs.declared.planning.Step.{Step}
-use Rattle.plan.specs.declared.planning.Step.TheVariants.{Placed, Misses}
+use Rattle.plan.specs.Standing.{nothing_by}
+use Rattle.plan.specs.declared.standing.Standing.{Standing}
 
--- ---- the best number so far, one more than it, and its key; 0 and the greatest number while there is none
+-- ---- the best number so far, if there is one
+
+pub suc_of : {x b : ℕ} → Some b ≡ picked_of x → x ≡ suc b
+suc_of {x = zero} e = cc
+suc_of {x = suc m} e = cc
 
 module _ (q : ℕ → Bool) (key : ℕ → ℕ) where
-  abbrev KeyIs : ℕ → ℕ → Type 0
-  KeyIs zero least = least ≡ 4294967295
-  KeyIs (suc m) least = least ≡ key m
-
-  pub record Best (j best least : ℕ) : Type 0 where
-    pub is : best ≡ pick q key j
-    pub least_is : KeyIs best least
-
-  pub none_yet : Best 0 0 4294967295
-  none_yet = record { is = sym (pick_zero q key); least_is = refl }
-
   -- one number more
-  pick_more : (j best : ℕ) → best ≡ pick q key j → pick q key (j + 1) ≡ better q key j best
-  pick_more j best e = ap (pick q key) (add-one j) ∙ pick_suc q key j ∙ ap (better q key j) (sym e)
+  pick_more : (j x : ℕ) → pick q key j ≡ x → pick q key (j + 1) ≡ better q key j x
+  pick_more j x e = ap (pick q key) (add-one j) ∙ pick_suc q key j ∙ ap (better q key j) e
 
-  stays : (j best : ℕ) → q j ≡ false → better q key j best ≡ best
+  stays : (j x : ℕ) → q j ≡ false → better q key j x ≡ x
   stays j zero e = rw e refl
   stays j (suc m) e = rw e refl
 
-  pub passed_by : {j best least : ℕ} → Best j best least → q j ≡ false → Best (j + 1) best least
-  passed_by {j} {best} b e = record { is = sym (pick_more j best b.is ∙ stays j best e); least_is = b.least_is }
+  -- the best of the first j, and its key
+  abbrev BestIs : ℕ → Option (ℕ × ℕ) → Type 0
+  BestIs j None = pick q key j ≡ 0
+  BestIs j (Some (i, least)) = (pick q key j ≡ suc i) × (least ≡ key i)
 
-  keeps : (j best least : ℕ) → KeyIs best least → q j ≡ true → key j ≤ 2000 → least ≤ key j → better q key j best ≡ best
-  keeps j zero least k e s l = absurd (omega (arith, k))
-  keeps j (suc m) least k e s l = rw (e, le-ltb (key j) (key m) (omega (arith, k))) refl
+  best_passed : (j : ℕ) (best : Option (ℕ × ℕ)) → q j ≡ false → BestIs j best → BestIs (j + 1) best
+  best_passed j None e b = pick_more j 0 b ∙ stays j 0 e
+  best_passed j (Some (i, least)) e b = (pick_more j (suc i) b.0 ∙ stays j (suc i) e, b.1)
 
-  pub kept : {j best least : ℕ} → Best j best least → q j ≡ true → key j ≤ 2000 → least ≤ key j → Best (j + 1) best least
-  kept {j} {best} {least} b e s l = record { is = sym (pick_more j best b.is ∙ keeps j best least b.least_is e s l); least_is = b.least_is }
+  best_kept : (j i least : ℕ) → q j ≡ true → least ≤ key j → BestIs j (Some (i, least)) → BestIs (j + 1) (Some (i, least))
+  best_kept j i least e l b = (pick_more j (suc i) b.0 ∙ rw (e, le-ltb (key j) (key i) (omega (arith, b.1))) refl, b.1)
 
-  changes : (j best least : ℕ) → KeyIs best least → q j ≡ true → key j < least → better q key j best ≡ suc j
-  changes j zero least k e l = rw e refl
-  changes j (suc m) least k e l = rw (e, lt-ltb (key j) (key m) (omega (arith, k))) refl
+  best_taken : (j i least : ℕ) → q j ≡ true → key j < least → BestIs j (Some (i, least)) → BestIs (j + 1) (Some (j, key j))
+  best_taken j i least e l b = (pick_more j (suc i) b.0 ∙ rw (e, lt-ltb (key j) (key i) (omega (arith, b.1))) refl, refl)
 
-  pub taken : {j best least : ℕ} → Best j best least → q j ≡ true → key j < least → Best (j + 1) (j + 1) (key j)
-  taken {j} {best} {least} b e l = record {
-    is = add-one j ∙ sym (pick_more j best b.is ∙ changes j best least b.least_is e l);
-    least_is = subst (λ x. KeyIs x (key j)) (sym (add-one j)) refl;
+  best_first : (j : ℕ) → q j ≡ true → BestIs j None → BestIs (j + 1) (Some (j, key j))
+  best_first j e b = (pick_more j 0 b ∙ rw e refl, refl)
+
+  -- what was found is one of the first n
+  pub found_low : (n : ℕ) {b : ℕ} {found : Option ℕ} → found ≡ Some b → found ≡ picked_of (pick q key n) → (b < n) × (suc b ≡ pick q key n)
+  found_low n {b} e h = let is : pick q key n ≡ suc b = suc_of (sym e ∙ h) in (omega (arith, pick_most q key n), sym is)
+
+-- of every test and key that say what the calls may give
+pub record Least (passes : ℕ → Bool → Type 0) (keys : ℕ → ℕ → Type 0) (n j : ℕ) (best : Option (ℕ × ℕ)) : Type 0 where
+  pub is : (q : ℕ → Bool) (key : ℕ → ℕ) → ((i : ℕ) (b : Bool) → i < n → passes i b → b ≡ q i) → ((i k : ℕ) → i < n → keys i k → k ≡ key i) → BestIs q key j best
+
+module _ {passes : ℕ → Bool → Type 0} {keys : ℕ → ℕ → Type 0} {n : ℕ} where
+  pub none_yet : Least passes keys n 0 None
+  none_yet = record { is = λ q key f g. pick_zero q key }
+
+  module _ {j : ℕ} {best : Option (ℕ × ℕ)} (so_far : Least passes keys n j best) (below : j < n) {b : Bool} (told : passes j b) where
+    pub passed_by : b ≡ false → Least passes keys n (j + 1) best
+    passed_by e = record { is = λ q key f g. best_passed q key j best (sym (f j b below told) ∙ e) (so_far.is q key f g) }
+
+    module _ (pass : b ≡ true) {here : ℕ} (at : keys j here) where
+      pub taken : {i least : ℕ} → best ≡ Some (i, least) → here < least → Least passes keys n (j + 1) (Some (j, here))
+      taken {i} {least} e l = record {
+        is = λ q key f g. rw (g j here below at)
+            (best_taken q key j i least (sym (f j b below told) ∙ pass) (omega (arith, g j here below at)) (subst (BestIs q key j) e (so_far.is q key f g)));
+      }
+
+      pub first_taken : best ≡ None → Least passes keys n (j + 1) (Some (j, here))
+      first_taken e = record {
+        is = λ q key f g. rw (g j here below at) (best_first q key j (sym (f j b below told) ∙ pass) (subst (BestIs q key j) e (so_far.is q key f g)));
+      }
+
+  -- a number of a lesser key passes: it is the best now
+  pub won : (best : Option (ℕ × ℕ)) {j here : ℕ} {b : Bool} → Least passes keys n j best → j < n → passes j b → b ≡ true → keys j here → beats best here ≡ true
+      → Least passes keys n (j + 1) (Some (j, here))
+  won None so_far below told pass at e = first_taken so_far below told pass at refl
+  won (Some (i, least)) {here = here} so_far below told pass at e = taken so_far below told pass at refl (ltb-true here least e)
+
+  -- one of no lesser key leaves the best as it is, whether it passes or not
+  pub lost : (best : Option (ℕ × ℕ)) {j here : ℕ} → Least passes keys n j best → j < n → keys j here → beats best here ≡ false → Least passes keys n (j + 1) best
+  lost None so_far below at e = let z : ◌≡◌ {A = ℕ} 0 1 = ap (λ (b : Bool). cond b 0 1) e in absurd (omega arith)
+  lost (Some (i, least)) {j} {here} so_far below at e = record {
+    is = λ q key f g. split (q j)
+        (λ t. best_kept q key j i least t (omega (arith, ltb-false here least e, g j here below at)) (so_far.is q key f g))
+        (λ t. best_passed q key j (Some (i, least)) t (so_far.is q key f g));
   }
 
-  pub best_of : {j n best least : ℕ} → Best j best least → j ≤ n → n ≤ j → (best ≡ pick q key n) × (best ≤ n)
-  best_of {j} {n} b l g =
-      let same : j ≡ n = omega arith in
-      let is = b.is ∙ ap (pick q key) same in
-      (is, omega (arith, is, pick_most q key n))
+  module _ {j : ℕ} {best : Option (ℕ × ℕ)} (so_far : Least passes keys n j best) (l : j ≤ n) (g : n ≤ j) where
+    all_seen : j ≡ n
+    all_seen = omega arith
 
--- ---- the earliest processor so far, and the start there
+    pub best_of : {found : Option ℕ} → found ≡ option_map (λ (p : ℕ × ℕ). p.0) best → LeastOf passes keys n found
+    best_of {found} e = record { is = λ q key f h. rw e (go q key best (so_far.is q key f h)) }
+      where
+        go : (q : ℕ → Bool) (key : ℕ → ℕ) (b : Option (ℕ × ℕ)) → BestIs q key j b → option_map (λ (p : ℕ × ℕ). p.0) b ≡ picked_of (pick q key n)
+        go q key None is = rw (ap (pick q key) (sym all_seen) ∙ is) refl
+        go q key (Some (i, least)) is = rw (ap (pick q key) (sym all_seen) ∙ is.0) refl
 
-module _ (start : ℕ → ℕ) where
-  pub record Earliest (p best least : ℕ) : Type 0 where
-    pub is : suc best ≡ pick any_processor start p
-    pub least_is : least ≡ start best
+-- ---- the earliest processor: there is one
 
-  pub first_one : {at : ℕ} → at ≡ start 0 → Earliest 1 0 at
-  first_one e = record { is = sym (pick_suc any_processor start 0 ∙ ap (better any_processor start 0) (pick_zero any_processor start)); least_is = e }
-
-  more : (p best : ℕ) → suc best ≡ pick any_processor start p → pick any_processor start (p + 1) ≡ better any_processor start p (suc best)
-  more p best e = ap (pick any_processor start) (add-one p) ∙ pick_suc any_processor start p ∙ ap (better any_processor start p) (sym e)
-
-  pub no_earlier : {p best least at : ℕ} → Earliest p best least → at ≡ start p → least ≤ at → Earliest (p + 1) best least
-  no_earlier {p} {best} e f l = record {
-    is = sym (more p best e.is ∙ rw (le-ltb (start p) (start best) (omega (arith, e.least_is, f))) refl);
-    least_is = e.least_is;
-  }
-
-  pub earlier_one : {p best least at : ℕ} → Earliest p best least → at ≡ start p → at < least → Earliest (p + 1) p at
-  earlier_one {p} {best} e f l = record {
-    is = sym (more p best e.is ∙ rw (lt-ltb (start p) (start best) (omega (arith, e.least_is, f))) refl);
-    least_is = f;
-  }
-
-  pub earliest_of : {p n best least : ℕ} → Earliest p best least → p ≤ n → n ≤ p → (suc best ≡ pick any_processor start n) × (best < n)
-  earliest_of {p} {n} e l g =
-      let same : p ≡ n = omega arith in
-      let is = e.is ∙ ap (pick any_processor start) same in
-      (is, omega (arith, is, pick_most any_processor start n))
+module _ (start : ℕ → ℕ) {n : ℕ} (some : 1 ≤ n) where
+  pub one_found : {found : Option ℕ} → found ≡ picked_of (pick any_processor start n) → IsSome found
+  one_found {found} h =
+      let (p, is) = some_picked any_processor start n 0 some refl in
+      rw (h, is) refl
 
 -- ---- the latest end so far
 
@@ -129,33 +144,28 @@ module _ (ends : List ℕ) (row : Row) (release : ℕ) where
 
 -- ---- the jobs placed so far
 
-pub record Going (t : Columns) (n m : ℕ) (ends last words : List ℕ) (placed : Row) (k : ℕ) : Type 0 where
-  pub within : k ≤ n
-  pub reached : (w : Work) → Tabled w t n m → Reached w t n m k placed ends last words
+pub record Going (t : Framed) (m : ℕ) (placed : Standing) (k : ℕ) : Type 0 where
+  pub reached : (w : Work) → Tabled w t m → Reached w t m k placed
 
-pub set_out : {t : Columns} {n m : ℕ} → Going t n m (replicate 128 0) (replicate 4 0) (replicate 256 0) no_marks 0
-set_out = record { within = omega arith; reached = λ w T. none_reached T }
+pub set_out : {t : Framed} {m : ℕ} → Going t m nothing_by 0
+set_out = record { reached = λ w T. none_reached T }
 
-module _ {t : Columns} {n m k : ℕ} {ends last words ends' last' words' : List ℕ} {placed : Row} {step : Step}
-    (so_far : Going t n m ends last words placed k) (below : k < n) (stepped : Stepped t n m placed ends last words step ends' last' words') where
-  after : (w : Work) → Tabled w t n m → After w t n m (suc k) step ends' last' words'
+module _ {t : Framed} {m k : ℕ} {placed placed' : Standing} {r : Std.Result (Unit {0}) Refusal}
+    (so_far : Going t m placed k) (below : k < t.job_count) (stepped : Stepped t m placed r placed') where
+  after : (w : Work) → Tabled w t m → After w t m (suc k) r placed'
   after w T = stepped.is w k below (so_far.reached w T)
 
-  pub one_placed : {row : Row} → step ≡ Placed row → Going t n m ends' last' words' row (k + 1)
-  one_placed {row} e = record {
-    within = omega arith;
-    reached = λ w T. rw (add-one k) (subst (λ (x : Step). After w t n m (suc k) x ends' last' words') e (after w T));
-  }
+  pub one_placed : {u : Unit {0}} → r ≡ Ok u → Going t m placed' (k + 1)
+  one_placed e = record { reached = λ w T. rw (add-one k) (subst (λ (x : Std.Result (Unit {0}) Refusal). After w t m (suc k) x placed') e (after w T)) }
 
-  pub one_missed : {j : ℕ} → step ≡ Misses j → (words'' : List ℕ) → AllPlaced t n m (record { answer = record { reply = MissesDeadline; place = j }; words = words'' })
-  one_missed {j} e words'' = record { is = λ w T. rw (missed w T) (record { is = refl }) }
+  pub one_missed : {refusal : Refusal} → r ≡ Err refusal → AllPlaced t m (Err refusal)
+  one_missed {refusal} e = record { is = λ w T. record { is = rw (missed w T) refl } }
     where
-      missed : (w : Work) → Tabled w t n m → planned_by w m ≡ refused MissesDeadline j
-      missed w T = one_misses w m (suc k) j (omega (arith, T.count)) (subst (λ (x : Step). After w t n m (suc k) x ends' last' words') e (after w T))
+      missed : (w : Work) → Tabled w t m → planned_by w m ≡ refused refusal.reply refusal.place
+      missed w T = one_misses w m (suc k) refusal.reply refusal.place (omega (arith, T.count)) (subst (λ (x : Std.Result (Unit {0}) Refusal). After w t m (suc k) x placed') e (after w T))
 
-pub placed_all : {t : Columns} {n m k : ℕ} {ends last words : List ℕ} {placed : Row} → Going t n m ends last words placed k → n ≤ k
-    → AllPlaced t n m (record { answer = record { reply = Done; place = 0 }; words = words })
-placed_all {t} {n} {m} {k} {ends} {last} {words} {placed} g h = record { is = λ w T. rw (planned w T) (record { is = (refl, refl) }) }
+pub placed_all : {t : Framed} {m k : ℕ} {placed : Standing} → Going t m placed k → k ≤ t.job_count → t.job_count ≤ k → AllPlaced t m (Ok placed.words)
+placed_all {t} {m} {k} {placed} g l h = record { is = λ w T. record { is = rw (planned w T) refl } }
   where
-    planned : (w : Work) → Tabled w t n m → planned_by w m ≡ done (take (2 * n) words)
-    planned w T = let same : k ≡ n = omega (arith, g.within) in all_planned (subst (λ x. Reached w t n m x placed ends last words) same (g.reached w T))
+    planned : (w : Work) → Tabled w t m → planned_by w m ≡ done (take (2 * t.job_count) placed.words)
+    planned w T = let same : k ≡ t.job_count = omega arith in all_planned (subst (λ x. Reached w t m x placed) same (g.reached w T))

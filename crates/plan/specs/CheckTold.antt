@@ -1,37 +1,36 @@
 -- What the functions that check a plan ask for, and what they give: the tables of a work, and the answer on a plan.
-use Rattle.std.specs.Prelude.{ℕ, ◌+◌, ◌*◌, ◌≤◌, ◌<◌, ◌≡◌, Bool, cond, ◌&&◌, ◌||◌, List, ltb, leb, eqb, length, get_or}
-use Rattle.reply.specs.Result.{answer_of}
-use Rattle.reply.specs.declared.Answer.{Answer}
+use Rattle.std.specs.Prelude.{ℕ, ◌+◌, ◌*◌, ◌≤◌, ◌<◌, ◌≡◌, Bool, cond, ◌&&◌, ◌||◌, List, ltb, leb, eqb, length, get_or, Option, Some, None}
+use Rattle.std.specs.declared.result.Result as Std
+use Rattle.reply.specs.Told.{judged}
+use Rattle.reply.specs.declared.Refusal.{Refusal}
 use Rattle.reply.specs.declared.Reply.{Reply}
-use Rattle.reply.specs.declared.Reply.TheVariants.{Done, WrongProcessor, BeforeRelease, EndsLate}
+use Rattle.reply.specs.declared.Reply.TheVariants.{WrongProcessor, BeforeRelease, EndsLate}
 use Rattle.marks.specs.Row.{marked, no_marks}
 use Rattle.marks.specs.declared.Row.{Row}
 use Rattle.graph.specs.Sequence.{no_job}
 use Rattle.graph.specs.Work.{Work, job_of, job_count_of, precedes}
 use Rattle.graph.specs.declared.Job.{Job}
-use Rattle.plan.specs.Plan.{checked_by}
-use Rattle.plan.specs.declared.checking.Verdict.{Verdict}
-use Rattle.plan.specs.declared.checking.Verdict.TheVariants.{Good, Faulty}
+use Rattle.plan.specs.Plan.{processor_at, start_at, checked_by}
+use Rattle.plan.specs.declared.checking.Stay.{Stay}
 
 -- ---- one job
 
 -- a job by itself: 11 to 13, or none
-unfoldable pub own_fault : ℕ → ℕ → ℕ → ℕ → ℕ → ℕ → Reply
-own_fault processor start release deadline budget m =
-    cond (ltb processor m) (cond (leb release start) (cond (leb (start + budget) deadline) Done EndsLate) BeforeRelease) WrongProcessor
+unfoldable pub own_fault : ℕ → ℕ → Job → ℕ → Option Reply
+own_fault processor start job m =
+    cond (ltb processor m) (cond (leb job.release start) (cond (leb (start + job.budget) job.deadline) None (Some EndsLate)) (Some BeforeRelease)) (Some WrongProcessor)
+
+-- where a plan puts job j
+abbrev pub stay_by : List ℕ → ℕ → ℕ → Stay
+stay_by plan j budget = record { processor = processor_at plan j; start = start_at plan j; end = start_at plan j + budget }
 
 -- whether two jobs overlap, by processor, start and end of each
-unfoldable pub overlapping : ℕ → ℕ → ℕ → ℕ → ℕ → ℕ → Bool
-overlapping p from to q start end = eqb p q && (ltb from end && ltb start to)
+unfoldable pub overlapping : Stay → Stay → Bool
+overlapping a b = eqb a.processor b.processor && (ltb a.start b.end && ltb b.start a.end)
 
 -- whether a job starts before one ends that precedes it: it was so with an earlier one, or is so with this
 unfoldable pub soon_or : Bool → Bool → ℕ → ℕ → Bool
 soon_or earlier before start to = earlier || (before && ltb start to)
-
--- what a verdict answers
-abbrev pub answer_by : Verdict → Answer
-answer_by Good = record { reply = Done; place = 0 }
-answer_by (Faulty job reply) = record { reply = reply; place = job }
 
 -- ---- all jobs
 
@@ -50,6 +49,6 @@ pub record Checkable (jobs : List Job) (before : List Row) (n : ℕ) (plan : Lis
   pub fits : (j : ℕ) → j < n → (get_or jobs j no_job).budget ≤ (get_or jobs j no_job).deadline
   pub small : (j : ℕ) → j < n → (get_or jobs j no_job).deadline ≤ 2000
 
--- the checker's answer
-pub record Judged (jobs : List Job) (before : List Row) (n m : ℕ) (plan : List ℕ) (r : Answer) : Type 0 where
-  pub is : (w : Work) → TablesOf w jobs before n → r ≡ answer_of (checked_by w m plan)
+-- what the checker finds
+pub record Judged (jobs : List Job) (before : List Row) (n m : ℕ) (plan : List ℕ) (r : Std.Result (Unit {0}) Refusal) : Type 0 where
+  pub is : (w : Work) → TablesOf w jobs before n → r ≡ judged (checked_by w m plan)

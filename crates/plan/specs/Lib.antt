@@ -8,6 +8,7 @@ pub mod StartLaws
 pub mod PlaceLaws
 pub mod PlannerLaws
 pub mod CheckTold
+pub mod Standing
 pub mod PlanTold
 pub mod PlanSteps
 pub mod CheckTables

@@ -1,18 +1,21 @@
--- What the planner's functions ask for, and what they give: by the tables and arrays that they are lent, and for every work whose tables those are.
-use Rattle.std.specs.Prelude.{ℕ, suc, ◌*◌, ◌≤◌, ◌<◌, max, ◌≡◌, Bool, true, cond, not, ◌&&◌, List, length, get_or, take}
+-- What the planner's functions ask for, and what they give: by the frame and the arrays that they are lent, and for every work whose tables the frame has.
+use Rattle.std.specs.Prelude.{ℕ, zero, suc, ◌*◌, ◌≤◌, ◌<◌, max, ◌≡◌, Bool, true, cond, not, ltb, ◌&&◌, List, length, get_or, take, Option, Some, None, Ok, Err}
+use Rattle.std.specs.declared.result.Result as Std
 use Rattle.reply.specs.Tools.{pick}
 use Rattle.reply.specs.Result.{Result, done, refused}
-use Rattle.reply.specs.declared.Reply.TheVariants.{Done, MissesDeadline}
-use Rattle.marks.specs.Row.{marked, inside_of}
+use Rattle.reply.specs.Told.{told}
+use Rattle.reply.specs.declared.Refusal.{Refusal}
+use Rattle.marks.specs.Row.{marked, inside_of, no_marks}
 use Rattle.marks.specs.declared.Row.{Row}
+use Rattle.graph.specs.Sequence.{no_job}
 use Rattle.graph.specs.Work.{Work, job_count_of, precedes, release, deadline, cost}
+use Rattle.graph.specs.declared.Framed.{Framed}
+use Rattle.graph.specs.declared.Job.{Job}
 use Rattle.plan.specs.Greatest.{greatest}
 use Rattle.plan.specs.Plan.{end_at, any_processor, Planning, is_placed, last_end, placing, planned_by}
 use Rattle.plan.specs.PlaceLaws.{Plannable}
 use Rattle.plan.specs.declared.planning.Next.{Next}
-use Rattle.plan.specs.declared.planning.Step.{Step}
-use Rattle.plan.specs.declared.planning.Step.TheVariants.{Placed, Misses}
-use Rattle.plan.specs.declared.planning.Planned.{Planned}
+use Rattle.plan.specs.declared.standing.Standing.{Standing}
 
 -- ---- by the tables
 
@@ -20,12 +23,30 @@ use Rattle.plan.specs.declared.planning.Planned.{Planned}
 abbrev pub can_by : Row → Row → ℕ → Bool
 can_by placed row j = not (marked placed j) && inside_of row placed
 
--- the row of job j
-abbrev pub row_at : List ℕ → List ℕ → ℕ → Row
-row_at lows highs j = record { low = get_or lows j 0; high = get_or highs j 0 }
+-- job j of a frame, and its row
+abbrev pub job_at : Framed → ℕ → Job
+job_at t j = get_or t.jobs j no_job
 
-abbrev pub choice_by : List ℕ → List ℕ → List ℕ → Row → ℕ → ℕ
-choice_by deadlines lows highs placed n = pick (λ j. can_by placed (row_at lows highs j) j) (λ j. get_or deadlines j 0) n
+abbrev pub row_at : Framed → ℕ → Row
+row_at t j = get_or t.before j no_marks
+
+-- of the first n jobs
+abbrev pub choice_by : Framed → Row → ℕ → ℕ
+choice_by t placed n = pick (λ j. can_by placed (row_at t j) j) (λ j. (job_at t j).deadline) n
+
+-- what is picked, if anything is
+abbrev pub picked_of : ℕ → Option ℕ
+picked_of zero = None
+picked_of (suc m) = Some m
+
+-- a key is less than that of the best number so far, if there is one
+abbrev pub beats : Option (ℕ × ℕ) → ℕ → Bool
+beats None key = true
+beats (Some (i, least)) key = ltb key least
+
+-- of the numbers below n that pass, that of least key, then the least number; by what calls of a test and of a key may give
+pub record LeastOf (passes : ℕ → Bool → Type 0) (keys : ℕ → ℕ → Type 0) (n : ℕ) (r : Option ℕ) : Type 0 where
+  pub is : (q : ℕ → Bool) (key : ℕ → ℕ) → ((j : ℕ) (b : Bool) → j < n → passes j b → b ≡ q j) → ((j k : ℕ) → j < n → keys j k → k ≡ key j) → r ≡ picked_of (pick q key n)
 
 -- the latest of the release and of the ends of the jobs below j that the row marks
 abbrev pub ready_by : List ℕ → Row → ℕ → ℕ → ℕ
@@ -34,99 +55,78 @@ ready_by ends row j release = max release (greatest j (λ i. cond (marked row i)
 abbrev pub start_by : List ℕ → ℕ → ℕ → ℕ
 start_by last ready p = max ready (get_or last p 0)
 
--- the deadlines of the first n jobs are small
-pub record Due (deadlines : List ℕ) (n : ℕ) : Type 0 where
-  pub few : n ≤ 128
-  pub small : (j : ℕ) → j < n → get_or deadlines j 0 ≤ 2000
-
--- there is a job to choose, and a processor
-pub record HasChoice (deadlines lows highs : List ℕ) (n m : ℕ) (placed : Row) : Type 0 where
-  pub due : Due deadlines n
-  pub some : 1 ≤ choice_by deadlines lows highs placed n
-  pub processors : (1 ≤ m) × (m ≤ 4)
-
 -- what is chosen: the job, its processor, and its start there
-pub record NextIs (deadlines releases lows highs : List ℕ) (n m : ℕ) (placed : Row) (ends last : List ℕ) (r : Next) : Type 0 where
-  pub job_is : suc r.job ≡ choice_by deadlines lows highs placed n
+pub record NextIs (t : Framed) (m : ℕ) (placed : Standing) (r : Next) : Type 0 where
+  pub job_is : suc r.job ≡ choice_by t placed.jobs t.job_count
   pub ready : ℕ
-  pub ready_is : ready ≡ ready_by ends (row_at lows highs r.job) r.job (get_or releases r.job 0)
-  pub processor_is : suc r.processor ≡ pick any_processor (start_by last ready) m
-  pub start_is : r.start ≡ start_by last ready r.processor
+  pub ready_is : ready ≡ ready_by placed.ends (row_at t r.job) r.job (job_at t r.job).release
+  pub processor_is : suc r.processor ≡ pick any_processor (start_by placed.last ready) m
+  pub start_is : r.start ≡ start_by placed.last ready r.processor
+
+-- there is a job to place, and a processor for it
+abbrev pub HasChoice : Framed → ℕ → Row → Type 0
+HasChoice t m placed = (1 ≤ choice_by t placed t.job_count) × (t.job_count ≤ 128) × (1 ≤ m) × (m ≤ 4)
 
 -- ---- for every work
 
--- the columns of the tables, as they are lent
-pub record Columns : Type 0 where
-  pub deadlines : List ℕ
-  pub releases : List ℕ
-  pub budgets : List ℕ
-  pub lows : List ℕ
-  pub highs : List ℕ
-
-abbrev pub columns : List ℕ → List ℕ → List ℕ → List ℕ → List ℕ → Columns
-columns deadlines releases budgets lows highs = record { deadlines = deadlines; releases = releases; budgets = budgets; lows = lows; highs = highs }
-
-abbrev pub row_on : Columns → ℕ → Row
-row_on t j = row_at t.lows t.highs j
-
--- the columns are those of a work that can be planned on m processors
-pub record Tabled (w : Work) (t : Columns) (n m : ℕ) : Type 0 where
+-- the frame's tables are those of a work that can be planned on m processors
+pub record Tabled (w : Work) (t : Framed) (m : ℕ) : Type 0 where
   pub plannable : Plannable w
-  pub count : job_count_of w ≡ n
-  pub deadline_is : (j : ℕ) → j < n → get_or t.deadlines j 0 ≡ deadline w j
-  pub release_is : (j : ℕ) → j < n → get_or t.releases j 0 ≡ release w j
-  pub budget_is : (j : ℕ) → j < n → get_or t.budgets j 0 ≡ cost w j
+  pub count : job_count_of w ≡ t.job_count
+  pub deadline_is : (j : ℕ) → j < t.job_count → (job_at t j).deadline ≡ deadline w j
+  pub release_is : (j : ℕ) → j < t.job_count → (job_at t j).release ≡ release w j
+  pub budget_is : (j : ℕ) → j < t.job_count → (job_at t j).budget ≡ cost w j
   -- row j marks the jobs that precede job j, and no others
-  pub row_is : (i j : ℕ) → j < n → marked (row_on t j) i ≡ precedes w i j
-  pub few : n ≤ 128
+  pub row_is : (i j : ℕ) → j < t.job_count → marked (row_at t j) i ≡ precedes w i j
+  pub few : t.job_count ≤ 128
   pub small : w.frame ≤ 2000
-  pub fits : (j : ℕ) → j < n → cost w j ≤ deadline w j
+  pub fits : (j : ℕ) → j < t.job_count → cost w j ≤ deadline w j
   pub processors : (1 ≤ m) × (m ≤ 4)
 
 -- the arrays tell what is placed: which jobs, the end of each, the last end on each processor, and the words of the plan
-pub record Stands (w : Work) (m : ℕ) (s : Planning) (placed : Row) (ends last words : List ℕ) : Type 0 where
-  pub ends_size : length ends ≡ 128
-  pub last_size : length last ≡ 4
-  pub words_size : length words ≡ 256
-  pub placed_is : (j : ℕ) → j < job_count_of w → marked placed j ≡ is_placed s j
-  pub ends_are : (j : ℕ) → j < job_count_of w → is_placed s j ≡ true → get_or ends j 0 ≡ end_at w s.words j
-  pub last_is : (p : ℕ) → p < m → get_or last p 0 ≡ last_end s p
-  pub words_are : take (2 * job_count_of w) words ≡ s.words
+pub record Stands (w : Work) (m : ℕ) (s : Planning) (placed : Standing) : Type 0 where
+  pub ends_size : length placed.ends ≡ 128
+  pub last_size : length placed.last ≡ 4
+  pub words_size : length placed.words ≡ 256
+  pub placed_is : (j : ℕ) → j < job_count_of w → marked placed.jobs j ≡ is_placed s j
+  pub ends_are : (j : ℕ) → j < job_count_of w → is_placed s j ≡ true → get_or placed.ends j 0 ≡ end_at w s.words j
+  pub last_is : (p : ℕ) → p < m → get_or placed.last p 0 ≡ last_end s p
+  pub words_are : take (2 * job_count_of w) placed.words ≡ s.words
 
 -- k jobs are placed
-pub record Reached (w : Work) (t : Columns) (n m k : ℕ) (placed : Row) (ends last words : List ℕ) : Type 0 where
-  pub tabled : Tabled w t n m
+pub record Reached (w : Work) (t : Framed) (m k : ℕ) (placed : Standing) : Type 0 where
+  pub tabled : Tabled w t m
   pub so_far : Planning
   pub are_placed : placing w m k ≡ done so_far
-  pub stands : Stands w m so_far placed ends last words
+  pub stands : Stands w m so_far placed
 
 -- one more can be placed
-pub record Placeable (t : Columns) (n m : ℕ) (placed : Row) (ends last words : List ℕ) : Type 0 where
+pub record Placeable (t : Framed) (m : ℕ) (placed : Standing) : Type 0 where
   pub work : Work
   pub number : ℕ
-  pub below : number < n
-  pub reached : Reached work t n m number placed ends last words
+  pub below : number < t.job_count
+  pub reached : Reached work t m number placed
 
 -- after the step to k jobs: it is placed, or it was refused
-abbrev pub After : Work → Columns → ℕ → ℕ → ℕ → Step → List ℕ → List ℕ → List ℕ → Type 0
-After w t n m k (Placed placed) ends last words = Reached w t n m k placed ends last words
-After w t n m k (Misses j) ends last words = placing w m k ≡ refused MissesDeadline j
+abbrev pub After : Work → Framed → ℕ → ℕ → Std.Result (Unit {0}) Refusal → Standing → Type 0
+After w t m k (Ok u) placed = Reached w t m k placed
+After w t m k (Err refusal) placed = placing w m k ≡ refused refusal.reply refusal.place
 
-pub record Stepped (t : Columns) (n m : ℕ) (placed : Row) (ends last words : List ℕ) (r : Step) (ends' last' words' : List ℕ) : Type 0 where
-  pub is : (w : Work) (k : ℕ) → k < n → Reached w t n m k placed ends last words → After w t n m (suc k) r ends' last' words'
+pub record Stepped (t : Framed) (m : ℕ) (placed : Standing) (r : Std.Result (Unit {0}) Refusal) (placed' : Standing) : Type 0 where
+  pub is : (w : Work) (k : ℕ) → k < t.job_count → Reached w t m k placed → After w t m (suc k) r placed'
 
 -- all can be placed, one after another
-pub record PlansAll (t : Columns) (n m : ℕ) : Type 0 where
+pub record PlansAll (t : Framed) (m : ℕ) : Type 0 where
   pub work : Work
-  pub tabled : Tabled work t n m
+  pub tabled : Tabled work t m
 
--- what was planned: the words, or the answer
-abbrev pub PlannedIs : Result (List ℕ) → ℕ → Planned → Type 0
-PlannedIs (done words) n r = (r.answer ≡ record { reply = Done; place = 0 }) × (take (2 * n) r.words ≡ words)
-PlannedIs (refused reply place) n r = r.answer ≡ record { reply = reply; place = place }
+-- what was planned, but for the words past the plan
+abbrev pub front : ℕ → Std.Result (List ℕ) Refusal → Std.Result (List ℕ) Refusal
+front n (Ok words) = Ok (take n words)
+front n (Err refusal) = Err refusal
 
-pub record PlannedAs (r : Result (List ℕ)) (n : ℕ) (planned : Planned) : Type 0 where
-  pub is : PlannedIs r n planned
+pub record PlannedAs (r : Result (List ℕ)) (n : ℕ) (planned : Std.Result (List ℕ) Refusal) : Type 0 where
+  pub is : front (2 * n) planned ≡ told (λ words. words) r
 
-pub record AllPlaced (t : Columns) (n m : ℕ) (r : Planned) : Type 0 where
-  pub is : (w : Work) → Tabled w t n m → PlannedAs (planned_by w m) n r
+pub record AllPlaced (t : Framed) (m : ℕ) (r : Std.Result (List ℕ) Refusal) : Type 0 where
+  pub is : (w : Work) → Tabled w t m → PlannedAs (planned_by w m) t.job_count r

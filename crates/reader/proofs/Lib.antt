@@ -1,11 +1,7 @@
-mod Ranges
-mod InTurn
 mod Loop
-mod Records
+mod Lists
+mod Parts
 mod PairRows
-mod Tails
-mod Actions
 mod ActionLoop
 mod ProgramLoop
-mod WholeFile
-mod EntryPoints
+mod Whole

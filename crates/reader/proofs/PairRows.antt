@@ -9,24 +9,21 @@ use Rattle.reply.specs.Result.{Result, done, refused, and_then, require}
 use Rattle.reply.specs.ResultLaws.{accepted, required}
 use Rattle.reply.specs.declared.Reply.{Reply}
 use Rattle.reply.specs.declared.Reply.TheVariants.{BadPair}
+use Rattle.reply.specs.declared.Refusal.{Refusal}
+use Rattle.std.specs.Prelude.{Ok, Err}
 use Rattle.number.specs.Parts.{Part, part, reading, many}
 use Rattle.number.specs.PartLaws.{same_part}
 use Rattle.number.specs.Number.{number_at}
-use Rattle.number.specs.Told.{number_of}
-use Rattle.number.specs.declared.Number.{Number}
-use Rattle.number.specs.declared.Number.TheVariants.{Value, Refused}
+use Rattle.number.specs.Told.{part_told, part_ok, part_err}
 use Rattle.marks.specs.Row.{marked, no_marks, with_of}
 use Rattle.marks.specs.declared.Row.{Row}
 use Rattle.network.specs.Pairs.{no_pair, is_pair, apart, good_pair}
 use Rattle.network.specs.PairLaws.{apart_true, pair_none, good_first}
 use Rattle.network.specs.Read.{one_pair}
 use Rattle.network.specs.Told.{pair_rows}
-use Rattle.reader.specs.Told.{as_result, value_of, pair_of}
 use Rattle.network.specs.declared.Pair.{Pair}
-use Rattle.reader.specs.declared.pairs.PairRead.{PairRead}
-use Rattle.reader.specs.declared.pairs.PairRead.TheVariants.{Got, Refused as NotPair}
 use Rattle.network.specs.RowLaws.{rows_none, row_has, rows_more}
-use Rattle.reader.proofs.InTurn.{two}
+use Rattle.reader.specs.Told.{marked_told}
 use Rattle.reader.proofs.Loop.{SoFar, start, step, stop}
 
 abbrev pair : ℕ → ℕ → Pair
@@ -42,39 +39,10 @@ same : {A B : Type 0} (r : Result (Part A)) (f g : A → ℕ → Result B) → (
 same (done p) f g e = e p.it p.next
 same (refused reply place) f g e = refl
 
-module _ (file : List ℕ) (n at : ℕ) where
-  -- the first pair of a file, with the test of a later one left out
-  first_pair : one_pair file n [] at ≡ (reading (number_at file at) λ a at₁. reading (number_at file at₁) λ b next. judged n at a b next)
-  unfolding one_pair
-  first_pair = same (number_at file at) _ _ (λ a m. same (number_at file m) _ _ (λ b next. rw (good_first n a b)))
-
-  module _ (a b : Number) (x : ℕ) (ea : a ≡ number_of (number_at file at)) (ex : x ≡ value_of a) (eb : b ≡ number_of (reading (as_result a) λ v n. number_at file n)) where
-    told : one_pair file n [] at ≡ (reading (as_result b) λ v m. judged n at (value_of a) (value_of b) m)
-    told = first_pair ∙ two (number_at file at) (number_at file) (judged n at) a b ea eb
-
-    module _ (lower next : ℕ) (t : Bool) (is : b ≡ Value lower next) (et : t ≡ apart n x lower) where
-      here : one_pair file n [] at ≡ judged n at x lower next
-      here = told ∙ rw (is, ex)
-
-      pub pair_apart : t ≡ true → Got (pair x lower) next ≡ pair_of (one_pair file n [] at)
-      pair_apart e = let j : judged n at x lower next ≡ part (pair x lower) next = rw (sym et ∙ e) in sym (ap pair_of (here ∙ j))
-
-      pub pair_same : t ≡ false → NotPair BadPair at ≡ pair_of (one_pair file n [] at)
-      pair_same e = let j : judged n at x lower next ≡ refused BadPair at = rw (sym et ∙ e) in sym (ap pair_of (here ∙ j))
-
-    pub pair_cut : (reply : Reply) (place : ℕ) → b ≡ Refused reply place → NotPair reply place ≡ pair_of (one_pair file n [] at)
-    pair_cut reply place e = let j : (reading (as_result b) λ v m. judged n at (value_of a) (value_of b) m) ≡ refused reply place = rw e in sym (ap pair_of (told ∙ j))
-
-pub pair_got : {p : Pair} {next : ℕ} (r : Result (Part Pair)) → Got p next ≡ pair_of r → r ≡ part p next
-pair_got {p} {next} (done q) e =
-    let x : p ≡ q.it = cc in
-    let m : next ≡ q.next = cc in
-    rw (x, m)
-pair_got (refused reply place) e = let z : ◌≡◌ {A = ℕ} 0 1 = cc in absurd (omega arith)
-
-pub pair_not : {reply : Reply} {place : ℕ} (r : Result (Part Pair)) → NotPair reply place ≡ pair_of r → r ≡ refused reply place
-pair_not (done p) e = let z : ◌≡◌ {A = ℕ} 0 1 = cc in absurd (omega arith)
-pair_not (refused reply place) e = cc
+-- the first pair of a file, with the test of a later one left out
+pub first_pair : (file : List ℕ) (n at : ℕ) → one_pair file n [] at ≡ (reading (number_at file at) λ a at₁. reading (number_at file at₁) λ b next. judged n at a b next)
+unfolding one_pair
+first_pair file n at = same (number_at file at) _ _ (λ a m. same (number_at file m) _ _ (λ b next. rw (good_first n a b)))
 
 -- ---- the same pair after others
 
@@ -127,26 +95,20 @@ pub record Marked (file : List ℕ) (n from i at : ℕ) (pairs : List Pair) (row
 pub begin : (file : List ℕ) (n from : ℕ) (pairs : List Pair) (rows : List Row) → pairs ≡ replicate 66 no_pair → rows ≡ replicate 12 no_marks → Marked file n from 0 from pairs rows
 begin file n from pairs rows p r = record { so_far = start (one_pair file n) no_pair 66 from pairs p; marks = r ∙ rows_none }
 
-module _ {file : List ℕ} {n from i at : ℕ} {pairs : List Pair} {rows : List Row} (m : Marked file n from i at pairs rows) (small : n ≤ 12)
-    {r : PairRead} (told : r ≡ pair_of (one_pair file n [] at)) where
-  before : List Pair
-  before = m.so_far.read
-
-  module _ {p : Pair} {next : ℕ} (e : r ≡ Got p next) where
+module _ {file : List ℕ} {n from i at : ℕ} {pairs : List Pair} {rows : List Row} (m : Marked file n from i at pairs rows) (small : n ≤ 12) where
+  module _ {p : Pair} {next : ℕ} (got : Ok (p, next) ≡ part_told (one_pair file n [] at)) where
     is : one_pair file n [] at ≡ part p next
-    is = pair_got (one_pair file n [] at) (sym e ∙ told)
+    is = part_ok (one_pair file n [] at) got
 
     pub place : (p.higher < 12) × (p.lower < 12)
     place = omega (arith, in_range file n [] at is)
 
     module _ {t : Bool} (has : t ≡ marked (get_or rows p.higher no_marks) p.lower) where
-      repeated : t ≡ is_pair before p.higher p.lower
-      unfolding before
+      repeated : t ≡ is_pair m.so_far.read p.higher p.lower
       repeated = has ∙ ap (λ (l : List Row). marked (get_or l p.higher no_marks) p.lower) m.marks
           ∙ row_has m.so_far.read p.higher p.lower place.0 (omega (arith, place.1))
 
       pub again : t ≡ false → i < 66 → Marked file n from (i + 1) next (set pairs i p) (set rows p.higher (with_of (get_or rows p.higher no_marks) p.lower))
-      unfolding before
       again f h = record {
         so_far = step (one_pair file n) no_pair 66 from m.so_far p next h (later_new file n m.so_far.read at is (sym repeated ∙ f));
         marks =
@@ -155,10 +117,9 @@ module _ {file : List ℕ} {n from i at : ℕ} {pairs : List Pair} {rows : List 
       }
 
       pub twice : t ≡ true → (count : ℕ) → i < count → many count (one_pair file n) from ≡ refused BadPair at
-      unfolding before
       twice f count h = stop (one_pair file n) no_pair 66 from m.so_far count BadPair at h (later_twice file n m.so_far.read at is (sym repeated ∙ f))
 
-  pub cut : {reply : Reply} {place : ℕ} → r ≡ NotPair reply place → (count : ℕ) → i < count → many count (one_pair file n) from ≡ refused reply place
-  cut {reply} {place} e count h =
-      stop (one_pair file n) no_pair 66 from m.so_far count reply place h
-      (later_refused file n m.so_far.read at (pair_not (one_pair file n [] at) (sym e ∙ told)))
+  pub cut : {e : Refusal} → Err e ≡ part_told (one_pair file n [] at) → {count : ℕ} → i < count → Err e ≡ marked_told (many count (one_pair file n) from)
+  cut {e} told {count} h =
+      rw (stop (one_pair file n) no_pair 66 from m.so_far count e.reply e.place h
+      (later_refused file n m.so_far.read at (part_err (one_pair file n [] at) told)))

@@ -1,25 +1,20 @@
 -- The code's answers on programs, from the results of the definitions; and what the lent memory then holds.
 use Rattle.std.specs.Prelude.{ℕ, ◌*◌, ◌≤◌, ◌≡◌, List, length, replicate}
 use Rattle.std.proofs.lemmas.List.Edits.{sets}
-use Rattle.reply.specs.Result.{Result, done, refused}
+use Rattle.std.specs.declared.result.Result as Std
+use Rattle.reply.specs.Result.{Result}
+use Rattle.reply.specs.Told.{told}
+use Rattle.reply.specs.declared.Refusal.{Refusal}
 use Rattle.number.specs.Parts.{Part, part, reading, many}
 use Rattle.number.specs.Number.{number_at}
-use Rattle.number.specs.Told.{number_of}
-use Rattle.number.specs.declared.Number.{Number}
+use Rattle.number.specs.Told.{part_told}
 use Rattle.network.specs.Lists.{each_of, fill_to}
 use Rattle.network.specs.Net.{four_fields, program_room, lengths}
 use Rattle.network.specs.Read.{ranged, one_action, one_program}
 use Rattle.network.specs.declared.Channel.{Channel}
 use Rattle.network.specs.declared.Four.{Four}
-use Rattle.reader.specs.declared.programs.FourRead.{FourRead}
-use Rattle.reader.specs.declared.programs.FourRead.TheVariants.{Got as GotFour, Refused as NoFour}
-use Rattle.reader.specs.declared.programs.ProgramsRead.{ProgramsRead}
-use Rattle.reader.specs.declared.programs.ProgramsRead.TheVariants.{Next, Refused as NotRead}
 
 -- ---- one action
-
-abbrev pub four_part : ℕ → ℕ → ℕ → ℕ → ℕ → Result (Part Four)
-four_part head a b c next = part (record { head = head; a = a; b = b; c = c }) next
 
 -- the four numbers of an action, whatever they are
 unfoldable pub four_numbers : List ℕ → ℕ → Result (Part Four)
@@ -28,18 +23,13 @@ four_numbers file at =
     reading (number_at file at₁) λ a at₂.
     reading (number_at file at₂) λ b at₃.
     reading (number_at file at₃) λ c next.
-    four_part head a b c next
-
-abbrev pub four_of : Result (Part Four) → FourRead
-four_of (done p) = GotFour p.it p.next
-four_of (refused reply place) = NoFour reply place
+    part (record { head = head; a = a; b = b; c = c }) next
 
 -- ---- programs
 
 -- where reading goes on
-abbrev pub next_of : {A : Type 0} → Result (Part A) → ProgramsRead
-next_of (done p) = Next p.next
-next_of (refused reply place) = NotRead reply place
+abbrev pub next_told : {A : Type 0} → Result (Part A) → Std.Result ℕ Refusal
+next_told = told (λ p. p.next)
 
 -- the program of process p: its count of actions, then the actions
 unfoldable pub program_of : List ℕ → List Channel → ℕ → ℕ → Result (Part (List Four))
@@ -52,27 +42,26 @@ unfoldable pub program_length : Result (Part (List Four)) → Result (Part ℕ)
 program_length r = reading r λ program next. part (length program) next
 
 -- the n actions of process p are read, and stand from 96 * p on
-pub record ActionsTold (file : List ℕ) (channels : List Channel) (p n from : ℕ) (before after : List ℕ) (r : ProgramsRead) : Type 0 where
-  pub answer : r ≡ next_of (many n (one_action file channels p n) from)
+pub record ActionsTold (file : List ℕ) (channels : List Channel) (p n from : ℕ) (before after : List ℕ) (r : Std.Result ℕ Refusal) : Type 0 where
+  pub answer : r ≡ next_told (many n (one_action file channels p n) from)
   pub stored : (program : List Four) (next : ℕ) → many n (one_action file channels p n) from ≡ part program next
       → after ≡ sets before (96 * p) (each_of four_fields program)
 
 -- the program of process p is read, and stands from 96 * p on
-pub record ProgramTold (file : List ℕ) (channels : List Channel) (p from : ℕ) (before after : List ℕ) (r : Number) : Type 0 where
-  pub answer : r ≡ number_of (program_length (program_of file channels p from))
+pub record ProgramTold (file : List ℕ) (channels : List Channel) (p from : ℕ) (before after : List ℕ) (r : Std.Result (ℕ × ℕ) Refusal) : Type 0 where
+  pub answer : r ≡ part_told (program_length (program_of file channels p from))
   pub stored : (program : List Four) (next : ℕ) → program_of file channels p from ≡ part program next
       → after ≡ sets before (96 * p) (each_of four_fields program)
 
--- what the reader of all programs requires: so many processes and channels at most, and zeros in the lent memory
-pub record Ready (count channelCount : ℕ) (counts actions : List ℕ) : Type 0 where
+-- what the reader of all programs requires: so many processes at most, and zeros in the lent memory
+pub record Ready (count : ℕ) (counts actions : List ℕ) : Type 0 where
   pub processes : count ≤ 12
-  pub channels : channelCount ≤ 16
   pub counts_zero : counts ≡ replicate 12 0
   pub actions_zero : actions ≡ replicate 1152 0
 
 -- the programs of all processes are read, and stand as in the struct of a network; after a refusal the memory may hold anything
-pub record ProgramsTold (file : List ℕ) (channels : List Channel) (count from : ℕ) (counts actions : List ℕ) (r : ProgramsRead) : Type 0 where
-  pub answer : r ≡ next_of (many count (one_program file channels) from)
+pub record ProgramsTold (file : List ℕ) (channels : List Channel) (count from : ℕ) (counts actions : List ℕ) (r : Std.Result ℕ Refusal) : Type 0 where
+  pub answer : r ≡ next_told (many count (one_program file channels) from)
   pub counted : (programs : List (List Four)) (next : ℕ) → many count (one_program file channels) from ≡ part programs next
       → counts ≡ fill_to 12 0 (lengths programs)
   pub stored : (programs : List (List Four)) (next : ℕ) → many count (one_program file channels) from ≡ part programs next

@@ -2,33 +2,48 @@
 #![tactic(auto)]
 
 mod channels;
+mod loading;
 mod numbers;
 mod pairs;
 mod processes;
 mod programs;
-mod reading;
+mod records;
 
 ghost use Rattle.std.specs.Prelude.{◌≡◌};
+ghost use Rattle.network.specs.Net.{no_network};
 ghost use Rattle.network.specs.Read.{read_file};
 
-use network::Loaded;
-use number::Number;
-use reply::{Answer, Reply};
+use network::{Loaded, Network};
+use reply::Answer;
 
-// The network of a file.
+fn no_network() -> Network
+    ensures { result ≡ no_network }
+{
+    Network {
+        process_count: 0,
+        processes: [processes::NO_PROCESS; 12],
+        pair_count: 0,
+        pairs: [pairs::NO_PAIR; 66],
+        channel_count: 0,
+        channels: [channels::NO_CHANNEL; 16],
+        action_counts: [0; 12],
+        actions: [0; 1152],
+    }
+}
+
+// The network of a file, or a network that is all zero.
+#[tactic(auto, unfolding(network::specs::Read::read_file))]
 pub fn read(file: &[u8]) -> Loaded
     ensures { result ≡ read_file file.now }
 {
-    match number::read_number(file, 0) {
-        Number::Value { value, next } => {
-            if value == 1 {
-                return reading::after_version(file, next);
-            }
-            reading::refused(Answer {
-                reply: Reply::WrongVersion,
-                place: 0,
-            })
-        }
-        Number::Refused { reply, place } => reading::refused(Answer { reply, place }),
+    match loading::load(file) {
+        Ok(network) => Loaded {
+            answer: Answer::done(),
+            network,
+        },
+        Err(refusal) => Loaded {
+            answer: Answer::from(refusal),
+            network: no_network(),
+        },
     }
 }

@@ -1,114 +1,86 @@
 // The pairs of the file, and beside them rows of marks: row a marks b where a-b is a pair.
-ghost use Rattle.std.specs.Prelude.{◌≡◌, [], ◌≤◌, replicate};
-ghost use Rattle.reply.specs.Result.{refused};
+ghost use Rattle.std.specs.Prelude.{◌≡◌, [], ◌≤◌};
+ghost use Rattle.reply.specs.declared.Reply.TheVariants.{BadPair};
 ghost use Rattle.number.specs.Parts.{many};
-ghost use Rattle.network.specs.Pairs.{no_pair};
+ghost use Rattle.number.specs.Told.{part_told};
 ghost use Rattle.network.specs.Read.{one_pair};
-ghost use Rattle.reader.specs.Told.{pair_of, pairs_of};
+ghost use Rattle.reader.specs.Told.{marked_told, pairs_at, pairs_told};
 
 use crate::numbers;
 use marks::Row;
-use network::{Pair, pairs};
-use number::Number;
-use reply::{Answer, Reply};
+use network::{Pair, cycles, pairs};
+use reply::{Refusal, Reply};
 
-#[derive(Clone, Copy)]
-pub enum PairRead {
-    Got { pair: Pair, next: usize },
-    Refused { reply: Reply, place: usize },
-}
-
-#[derive(Clone, Copy)]
-pub struct PairsRead {
-    pub ok: bool,
-    pub answer: Answer,
-    pub pairs: [Pair; 66],
-    pub rows: [Row; 12],
-    pub next: usize,
+fn bad_pair(place: usize) -> Refusal
+    ensures { result ≡ record { reply = BadPair; place = place } }
+{
+    Refusal {
+        reply: Reply::BadPair,
+        place,
+    }
 }
 
 // The pair at `at`, which may still be a repeated one.
-fn read_pair(file: &[u8], n: u32, at: usize) -> PairRead
-    ensures { result ≡ pair_of (one_pair file.now n [] at) }
+#[tactic(auto, unfolding(network::specs::Read::one_pair, network::specs::Pairs::good_pair))]
+fn read_pair(file: &[u8], n: u32, at: usize) -> Result<(Pair, usize), Refusal>
+    ensures { result ≡ part_told (one_pair file.now n [] at) }
 {
-    let first = number::read_number(file, at);
-    let higher = numbers::value_of(first);
-    match numbers::then_number(file, first) {
-        Number::Value { value: lower, next } => {
-            if pairs::are_apart(n, higher, lower) {
-                return PairRead::Got {
-                    pair: Pair { higher, lower },
-                    next,
-                };
-            }
-            PairRead::Refused {
-                reply: Reply::BadPair,
-                place: at,
-            }
-        }
-        Number::Refused { reply, place } => PairRead::Refused { reply, place },
+    let (higher, next) = number::read_number(file, at)?;
+    let (lower, next) = number::read_number(file, next)?;
+    if pairs::are_apart(n, higher, lower) {
+        return Ok((Pair { higher, lower }, next));
     }
+    Err(bad_pair(at))
 }
 
-pub fn no_pairs() -> [Pair; 66]
-    ensures { result ≡ replicate 66 no_pair }
-{
-    [Pair {
-        higher: 0,
-        lower: 0,
-    }; 66]
-}
-
-fn stopped(reply: Reply, place: usize) -> PairsRead
-    ensures { result ≡ pairs_of (refused reply place) }
-{
-    let pairs = no_pairs();
-    let rows = pairs::no_rows();
-    PairsRead {
-        ok: false,
-        answer: Answer { reply, place },
-        pairs,
-        rows,
-        next: 0,
-    }
-}
+// No pair: what stands past the pairs that there are.
+pub const NO_PAIR: Pair = Pair {
+    higher: 0,
+    lower: 0,
+};
 
 // So many pairs from `from` on, of n processes.
-pub fn read_pairs(file: &[u8], n: u32, count: usize, from: usize) -> PairsRead
+fn read_list(
+    file: &[u8],
+    n: u32,
+    count: usize,
+    from: usize,
+) -> Result<([Pair; 66], [Row; 12], usize), Refusal>
     requires { (n ≤ 12) × (count ≤ 66) }
-    ensures { result ≡ pairs_of (many count (one_pair file.now n) from) }
+    ensures { result ≡ marked_told (many count (one_pair file.now n) from) }
 {
-    let mut pairs = no_pairs();
+    // Kept: a loop of its own beside `records::read_list`, of which a step, an `Fn`, could not mark the rows.
+    let mut pairs = [NO_PAIR; 66];
     let mut rows = pairs::no_rows();
     let mut at = from;
-    let mut i = 0usize;
-    while i < count {
-        match read_pair(file, n, at) {
-            PairRead::Got { pair, next } => {
-                let higher = pair.higher as usize;
-                let lower = pair.lower as usize;
-                let row = rows[higher];
-                if row.has(lower) {
-                    return stopped(Reply::BadPair, at);
-                }
-                rows[higher] = row.with(lower);
-                pairs[i] = pair;
-                at = next;
-                i += 1;
-            }
-            PairRead::Refused { reply, place } => {
-                return stopped(reply, place);
-            }
+    for i in 0..count {
+        let (pair, next) = read_pair(file, n, at)?;
+        let higher = pair.higher as usize;
+        let lower = pair.lower as usize;
+        if rows[higher].has(lower) {
+            return Err(bad_pair(at));
         }
+        rows[higher] = rows[higher].with(lower);
+        pairs[i] = pair;
+        at = next;
     }
-    PairsRead {
-        ok: true,
-        answer: Answer {
-            reply: Reply::Done,
-            place: 0,
-        },
-        pairs,
-        rows,
-        next: at,
+    Ok((pairs, rows, at))
+}
+
+// How many pairs of n processes there are, and each of them; no chain of them may lead back to its start.
+#[tactic(auto, unfolding(crate::specs::Told::pairs_at))]
+pub fn read_pairs(
+    file: &[u8],
+    n: u32,
+    at: usize,
+) -> Result<(u32, [Pair; 66], [Row; 12], usize), Refusal>
+    requires { n ≤ 12 }
+    ensures { result ≡ pairs_told (pairs_at file.now n at) }
+{
+    let (count, at) = numbers::in_range(file, 0, 66, at)?;
+    let (pairs, rows, at) = read_list(file, n, count as usize, at)?;
+    if cycles::has_cycle(rows, n as usize) {
+        return Err(bad_pair(at));
     }
+    Ok((count, pairs, rows, at))
 }

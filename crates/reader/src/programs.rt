@@ -1,63 +1,33 @@
 // The programs of the file, read into lent memory: four numbers an action, room for 24 actions a process.
-ghost use Rattle.std.specs.Prelude.{◌≡◌, ◌+◌, ◌≤◌, ◌<◌, take};
+// Kept: one array of numbers with rooms in it, and counts beside it, since the struct that C sees (`fppn_read`) has them so.
+ghost use Rattle.std.specs.Prelude.{◌≡◌, ◌+◌, ◌≤◌, ◌<◌};
 ghost use Rattle.std.proofs.lemmas.List.Edits.{sets};
-ghost use Rattle.number.specs.Parts.{reading};
+ghost use Rattle.number.specs.Told.{part_told};
 ghost use Rattle.network.specs.Net.{four_fields};
-ghost use Rattle.reader.specs.Told.{as_result, value_of};
-ghost use Rattle.reader.specs.ProgramsTold.{four_part, four_numbers, four_of, ActionsTold, ProgramTold, Ready, ProgramsTold};
+ghost use Rattle.reader.specs.ProgramsTold.{four_numbers, ActionsTold, ProgramTold, Ready, ProgramsTold};
 
 use crate::numbers;
 use network::{Channel, Four, programs};
-use number::Number;
-use reply::Reply;
-
-#[derive(Clone, Copy)]
-pub enum FourRead {
-    Got { four: Four, next: usize },
-    Refused { reply: Reply, place: usize },
-}
-
-// What reading into lent memory answers: where to go on, or the refusal.
-#[derive(Clone, Copy)]
-pub enum ProgramsRead {
-    Next { next: usize },
-    Refused { reply: Reply, place: usize },
-}
+use reply::{Refusal, Reply};
 
 // ---- one action
 
-// The four numbers read one after another, of which the last is refused if any is.
-fn four_of(head: Number, a: Number, b: Number, c: Number) -> FourRead
-    ensures { result ≡ four_of (reading (as_result c) λ value next. four_part (value_of head) (value_of a) (value_of b) (value_of c) next) }
+#[tactic(auto, unfolding(crate::specs::ProgramsTold::four_numbers))]
+fn read_four(file: &[u8], at: usize) -> Result<(Four, usize), Refusal>
+    ensures { result ≡ part_told (four_numbers file.now at) }
 {
-    match c {
-        Number::Value { value, next } => FourRead::Got {
-            four: Four {
-                head: numbers::value_of(head),
-                a: numbers::value_of(a),
-                b: numbers::value_of(b),
-                c: value,
-            },
-            next,
-        },
-        Number::Refused { reply, place } => FourRead::Refused { reply, place },
-    }
-}
-
-fn read_four(file: &[u8], at: usize) -> FourRead
-    ensures { result ≡ four_of (four_numbers file.now at) }
-{
-    let head = number::read_number(file, at);
-    let a = numbers::then_number(file, head);
-    let b = numbers::then_number(file, a);
-    let c = numbers::then_number(file, b);
-    four_of(head, a, b, c)
+    let (head, at) = number::read_number(file, at)?;
+    let (a, at) = number::read_number(file, at)?;
+    let (b, at) = number::read_number(file, at)?;
+    let (c, at) = number::read_number(file, at)?;
+    Ok((Four { head, a, b, c }, at))
 }
 
 fn store_four(actions: &mut [u32; 1152], at: usize, four: Four)
     requires { at + 3 < 1152 }
     ensures { actions.new ≡ sets actions.old at (four_fields four) }
 {
+    // Kept: `copy_from_slice` of the four was tried and proved, and reading the longest file then took a tenth longer than the old form.
     actions[at] = four.head;
     actions[at + 1] = four.a;
     actions[at + 2] = four.b;
@@ -66,97 +36,67 @@ fn store_four(actions: &mut [u32; 1152], at: usize, four: Four)
 
 // ---- programs
 
-// The n actions of process p from `from` on, into the room of p.
+// The n actions of process p from `from` on, into the room of p; and the position after them.
 fn read_actions(
     file: &[u8],
-    channels: [Channel; 16],
-    channel_count: usize,
+    channels: &[Channel],
     p: usize,
     n: usize,
     from: usize,
     actions: &mut [u32; 1152],
-) -> ProgramsRead
-    requires { (channel_count ≤ 16) × (p < 12) × (n ≤ 24) }
-    ensures { ActionsTold file.now (take channel_count channels) p n from actions.old actions.new result }
+) -> Result<usize, Refusal>
+    requires { (p < 12) × (n ≤ 24) }
+    ensures { ActionsTold file.now channels.now p n from actions.old actions.new result }
 {
-    let process = p as u32;
     let mut at = from;
-    let mut k = 0usize;
-    while k < n {
-        match read_four(file, at) {
-            FourRead::Got { four, next } => {
-                let known = programs::is_below(four.a, channel_count);
-                let place = programs::place_of(known, four.a);
-                let channel = channels[place];
-                if programs::good_action(four, known, channel, process, n, k) {
-                    store_four(actions, 96 * p + 4 * k, four);
-                    at = next;
-                    k += 1;
-                } else {
-                    return ProgramsRead::Refused {
-                        reply: Reply::BadAction,
-                        place: at,
-                    };
-                }
-            }
-            FourRead::Refused { reply, place } => {
-                return ProgramsRead::Refused { reply, place };
-            }
+    for k in 0..n {
+        let (four, next) = read_four(file, at)?;
+        let channel = programs::named(channels, four.a);
+        if !programs::good_action(four, channel, p as u32, n, k) {
+            return Err(Refusal {
+                reply: Reply::BadAction,
+                place: at,
+            });
         }
+        store_four(actions, 96 * p + 4 * k, four);
+        at = next;
     }
-    ProgramsRead::Next { next: at }
+    Ok(at)
 }
 
 // The program of process p at `at`: how many actions it has, and the position after them.
 fn read_program(
     file: &[u8],
-    channels: [Channel; 16],
-    channel_count: usize,
+    channels: &[Channel],
     p: usize,
     at: usize,
     actions: &mut [u32; 1152],
-) -> Number
-    requires { (channel_count ≤ 16) × (p < 12) }
-    ensures { ProgramTold file.now (take channel_count channels) p at actions.old actions.new result }
+) -> Result<(u32, usize), Refusal>
+    requires { p < 12 }
+    ensures { ProgramTold file.now channels.now p at actions.old actions.new result }
 {
-    match numbers::in_range(file, 0, 24, at) {
-        Number::Value { value, next } => {
-            let n = value as usize;
-            match read_actions(file, channels, channel_count, p, n, next, actions) {
-                ProgramsRead::Next { next } => Number::Value { value, next },
-                ProgramsRead::Refused { reply, place } => Number::Refused { reply, place },
-            }
-        }
-        Number::Refused { reply, place } => Number::Refused { reply, place },
-    }
+    let (n, at) = numbers::in_range(file, 0, 24, at)?;
+    let at = read_actions(file, channels, p, n as usize, at, actions)?;
+    Ok((n, at))
 }
 
 // The programs of so many processes from `from` on: their action counts into `counts`, their actions into `actions`. Both are zero before.
 pub fn read_programs(
     file: &[u8],
-    channels: [Channel; 16],
-    channel_count: usize,
+    channels: &[Channel],
     count: usize,
     from: usize,
     counts: &mut [u32; 12],
     actions: &mut [u32; 1152],
-) -> ProgramsRead
-    requires { Ready count channel_count counts.old actions.old }
-    ensures { ProgramsTold file.now (take channel_count channels) count from counts.new actions.new result }
+) -> Result<usize, Refusal>
+    requires { Ready count counts.old actions.old }
+    ensures { ProgramsTold file.now channels.now count from counts.new actions.new result }
 {
     let mut at = from;
-    let mut p = 0usize;
-    while p < count {
-        match read_program(file, channels, channel_count, p, at, actions) {
-            Number::Value { value, next } => {
-                counts[p] = value;
-                at = next;
-                p += 1;
-            }
-            Number::Refused { reply, place } => {
-                return ProgramsRead::Refused { reply, place };
-            }
-        }
+    for p in 0..count {
+        let (n, next) = read_program(file, channels, p, at, actions)?;
+        counts[p] = n;
+        at = next;
     }
-    ProgramsRead::Next { next: at }
+    Ok(at)
 }

@@ -11,5 +11,8 @@ abbrev pub ok_frames : ℕ → Result (Unit {0})
 ok_frames f = require (leb 1 f && leb f 100) OutOfRange 0
 
 -- "a lent buffer is shorter than what the call reads or fills"
+abbrev pub room_of : ℕ → ℕ → Result (Unit {0})
+room_of needed size = require (leb needed size) ShortBuffer 0
+
 abbrev pub ok_room : ℕ → List ℕ → Result (Unit {0})
-ok_room needed buffer = require (leb needed (length buffer)) ShortBuffer 0
+ok_room needed buffer = room_of needed (length buffer)

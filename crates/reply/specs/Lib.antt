@@ -8,3 +8,4 @@ pub mod AllAny
 pub mod Counts
 pub mod First
 pub mod Pick
+pub mod Told

@@ -1,48 +1,94 @@
-// A case's line: words, numbers and bytes, on standard output.
-use reply::Reply;
-use std::io;
+// What several lines say: a reply and its place, what a call gives or why it refuses, numbers and bytes.
+use reply::{Answer, Refusal};
+use std::fmt;
+use std::fmt::Display;
 
-pub fn text(rt: &impl Print, words: &[u8]) -> io::Result<()> {
-    rt.write_all(words)
+// What a call answers, refused or not.
+#[derive(Drop)]
+pub struct Told(pub Answer);
+
+impl Display for Told {
+    fn fmt<W: fmt::Write>(&self, f: &mut fmt::Formatter<W>) -> fmt::Result {
+        let Answer { reply, place } = self.0;
+        write!(f, "reply {} at {place}", u32::from(reply))
+    }
 }
 
-pub fn number(rt: &impl Print, n: u64) -> io::Result<()> {
-    print!(rt; "{n}")
+// Why a call refuses.
+#[derive(Drop)]
+pub struct Refused(pub Refusal);
+
+impl Display for Refused {
+    fn fmt<W: fmt::Write>(&self, f: &mut fmt::Formatter<W>) -> fmt::Result {
+        let Refusal { reply, place } = self.0;
+        write!(f, "refused {} at {place}", u32::from(reply))
+    }
 }
 
-// Words, and a number after them.
-pub fn counted(rt: &impl Print, words: &[u8], n: u64) -> io::Result<()> {
-    text(rt, words)?;
-    number(rt, n)
+// What a call gives, or why it refuses.
+#[derive(Drop)]
+pub struct Outcome<T>(pub Answer, pub T);
+
+impl<T: Display> Display for Outcome<T> {
+    fn fmt<W: fmt::Write>(&self, f: &mut fmt::Formatter<W>) -> fmt::Result {
+        match self.0.ok() {
+            Ok(()) => self.1.fmt(f),
+            Err(refusal) => Refused(refusal).fmt(f),
+        }
+    }
 }
 
-// A reply and its place.
-pub fn answer(rt: &impl Print, reply: Reply, place: usize) -> io::Result<()> {
-    counted(rt, b": reply ", reply::number(reply) as u64)?;
-    counted(rt, b" at ", place as u64)
+// Each number after a space.
+#[derive(Drop)]
+pub struct Numbers<'a>(pub &'a [u32]);
+
+impl Display for Numbers<'_> {
+    fn fmt<W: fmt::Write>(&self, f: &mut fmt::Formatter<W>) -> fmt::Result {
+        for number in self.0 {
+            write!(f, " {number}")?;
+        }
+        Ok(())
+    }
 }
 
 // Each byte after a space, in hexadecimal.
-pub fn bytes(rt: &impl Print, s: &[u8]) -> io::Result<()> {
-    for &b in s {
-        print!(rt; " {:02x}", wide(b))?;
+#[derive(Drop)]
+pub struct Bytes<'a>(pub &'a [u8]);
+
+impl Display for Bytes<'_> {
+    fn fmt<W: fmt::Write>(&self, f: &mut fmt::Formatter<W>) -> fmt::Result {
+        for byte in self.0 {
+            write!(f, " {byte:02x}")?;
+        }
+        Ok(())
     }
-    Ok(())
 }
 
 // The first byte and the last, if there are any.
-pub fn ends(rt: &impl Print, s: &[u8]) -> io::Result<()> {
-    if let (Some(&first), Some(&last)) = (s.first(), s.last()) {
-        print!(rt; " first {:02x}, last {:02x}", wide(first), wide(last))?;
+#[derive(Drop)]
+pub struct Ends<'a>(pub &'a [u8]);
+
+impl Display for Ends<'_> {
+    fn fmt<W: fmt::Write>(&self, f: &mut fmt::Formatter<W>) -> fmt::Result {
+        match (self.0.first(), self.0.last()) {
+            (Some(first), Some(last)) => write!(f, " first {first:02x}, last {last:02x}"),
+            _ => Ok(()),
+        }
     }
-    Ok(())
 }
 
-pub fn refusal(rt: &impl Print, reply: Reply, place: usize) -> io::Result<()> {
-    counted(rt, b"refused ", reply::number(reply) as u64)?;
-    counted(rt, b" at ", place as u64)
-}
+// The output words; of more than 32 the last eight.
+#[derive(Drop)]
+pub struct Output<'a>(pub &'a [u32]);
 
-fn wide(b: u8) -> u64 {
-    b as u64
+impl Display for Output<'_> {
+    fn fmt<W: fmt::Write>(&self, f: &mut fmt::Formatter<W>) -> fmt::Result {
+        let words = self.0;
+        let shown = if words.len() <= 32 {
+            words
+        } else {
+            &words[words.len() - 8..]
+        };
+        write!(f, ", output{}", Numbers(shown))
+    }
 }

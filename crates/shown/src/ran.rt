@@ -1,114 +1,81 @@
 // The line of a run: reply and place, output words, what each channel holds, and the variables of each process.
-use crate::print;
+use crate::print::{Numbers, Output, Told};
 use machine::Held;
-use reply::Reply;
-use std::io;
+use reply::Answer;
+use std::fmt::Display;
+use std::{fmt, io};
 
 pub fn show(
     rt: &impl Print,
-    label: &[u8],
+    label: &str,
     file: &[u8],
     frames: u32,
     input: &[u32],
     output: &mut [u32],
 ) -> io::Result<()> {
-    print::text(rt, label)?;
     let ran = zero_delay::run(file, frames, input, output);
-    let answer = ran.answer;
-    print::answer(rt, answer.reply, answer.place)?;
-    rest(rt, file, answer.reply, ran.channels, ran.variables, output)
+    let state = State {
+        file,
+        answer: ran.answer,
+        channels: &ran.channels,
+        variables: &ran.variables,
+    };
+    println!(rt; "{label}: {}{}{state}", Told(ran.answer), Output(output))
 }
 
-// What stands after the numbers: the output words, and the state, or that it is zero.
-pub fn rest(
-    rt: &impl Print,
-    file: &[u8],
-    reply: Reply,
-    channels: [Held; 16],
-    variables: [u32; 96],
-    output: &[u32],
-) -> io::Result<()> {
-    words(rt, output)?;
-    if reply::number(reply) == 0 {
-        state(rt, file, &channels, &variables)?;
-    } else if is_zero(&channels, &variables) {
-        print::text(rt, b", all else zero")?;
+// What a run of a file leaves: the channels and the variables of its network, or that all is zero.
+#[derive(Drop)]
+pub struct State<'a> {
+    pub file: &'a [u8],
+    pub answer: Answer,
+    pub channels: &'a [Held],
+    pub variables: &'a [u32],
+}
+
+impl Display for State<'_> {
+    fn fmt<W: fmt::Write>(&self, f: &mut fmt::Formatter<W>) -> fmt::Result {
+        match self.answer.ok() {
+            Ok(()) => {
+                let network = reader::read(self.file).network;
+                held(f, self.channels, network.channel_count as usize)?;
+                variables(f, self.variables, network.process_count as usize)
+            }
+            Err(_) if self.is_zero() => write!(f, ", all else zero"),
+            Err(_) => Ok(()),
+        }
     }
-    print::text(rt, b"\n")
 }
 
-// The output words; of a long output the last eight.
-pub fn words(rt: &impl Print, output: &[u32]) -> io::Result<()> {
-    print::text(rt, b", output")?;
-    let left_out = output.len().saturating_sub(shown(output.len()));
-    places(rt, &output[left_out..])
+impl State<'_> {
+    // Whether no variable has a value, and no channel held or lost one.
+    fn is_zero(&self) -> bool {
+        self.variables.iter().all(|&variable| variable == 0) && self.channels.iter().all(is_empty)
+    }
 }
 
-// A number after a space.
-fn number(rt: &impl Print, n: u32) -> io::Result<()> {
-    print::counted(rt, b" ", n as u64)
-}
-
-fn shown(length: usize) -> usize {
-    if 32 < length { 8 } else { 32 }
-}
-
-// Of the file's channels what they hold, and the variables of its processes.
-fn state(
-    rt: &impl Print,
-    file: &[u8],
-    channels: &[Held; 16],
-    variables: &[u32; 96],
-) -> io::Result<()> {
-    let network = reader::read(file).network;
-    all_held(rt, channels, network.channel_count as usize)?;
-    all_variables(rt, variables, network.process_count as usize)
-}
-
-fn all_held(rt: &impl Print, channels: &[Held; 16], count: usize) -> io::Result<()> {
+// Of the first `count` channels how many values each holds, its eight places, and its loss.
+fn held<W: fmt::Write>(f: &mut fmt::Formatter<W>, channels: &[Held], count: usize) -> fmt::Result {
     for (i, held) in channels.iter().take(count).enumerate() {
-        print::counted(rt, b", channel ", i as u64)?;
-        one_held(rt, held)?;
-    }
-    Ok(())
-}
-
-// How many values a channel holds, its eight places, and its loss.
-fn one_held(rt: &impl Print, held: &Held) -> io::Result<()> {
-    print::counted(rt, b" holds ", held.number as u64)?;
-    print::text(rt, b":")?;
-    places(rt, &held.values)?;
-    print::counted(rt, b", loss ", held.loss as u64)
-}
-
-fn places(rt: &impl Print, values: &[u32]) -> io::Result<()> {
-    for &value in values {
-        number(rt, value)?;
+        let values = Numbers(&held.values);
+        write!(
+            f,
+            ", channel {i} holds {}:{values}, loss {}",
+            held.number, held.loss
+        )?;
     }
     Ok(())
 }
 
 // Eight for each of the first `count` processes.
-fn all_variables(rt: &impl Print, variables: &[u32; 96], count: usize) -> io::Result<()> {
+fn variables<W: fmt::Write>(
+    f: &mut fmt::Formatter<W>,
+    variables: &[u32],
+    count: usize,
+) -> fmt::Result {
     for (i, eight) in variables.chunks(8).take(count).enumerate() {
-        print::counted(rt, b", variables ", i as u64)?;
-        print::text(rt, b":")?;
-        places(rt, eight)?;
+        write!(f, ", variables {i}:{}", Numbers(eight))?;
     }
     Ok(())
-}
-
-// Whether no variable has a value, and no channel held or lost one.
-fn is_zero(channels: &[Held; 16], variables: &[u32; 96]) -> bool {
-    no_variables(variables) && no_channels(channels)
-}
-
-fn no_variables(variables: &[u32; 96]) -> bool {
-    variables.iter().all(|&variable| variable == 0)
-}
-
-fn no_channels(channels: &[Held; 16]) -> bool {
-    channels.iter().all(is_empty)
 }
 
 fn is_empty(held: &Held) -> bool {

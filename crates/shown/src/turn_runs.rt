@@ -1,10 +1,11 @@
 // The line of a turn run.
-use crate::{print, ran};
+use crate::print::{Output, Told};
+use crate::ran::State;
 use std::io;
 
 pub fn show(
     rt: &impl Print,
-    label: &[u8],
+    label: &str,
     file: &[u8],
     processors: u32,
     frames: u32,
@@ -13,13 +14,24 @@ pub fn show(
     list: &[u32],
     output: &mut [u32],
 ) -> io::Result<()> {
-    print::text(rt, label)?;
     let ran = turns::run(file, processors, frames, plan, input, list, output);
-    let answer = ran.answer;
-    print::answer(rt, answer.reply, answer.place)?;
-    print::counted(rt, b", frames ", ran.frames as u64)?;
-    print::counted(rt, b", jobs ", ran.jobs as u64)?;
-    print::counted(rt, b", working ", ran.working as u64)?;
-    print::counted(rt, b", waiting ", ran.waiting as u64)?;
-    ran::rest(rt, file, answer.reply, ran.channels, ran.variables, output)
+    print!(rt;
+        "{label}: {}, frames {}, jobs {}",
+        Told(ran.answer),
+        ran.frames,
+        ran.jobs
+    )?;
+    print!(rt;
+        ", working {}, waiting {}{}",
+        ran.working,
+        ran.waiting,
+        Output(output)
+    )?;
+    let state = State {
+        file,
+        answer: ran.answer,
+        channels: &ran.channels,
+        variables: &ran.variables,
+    };
+    println!(rt; "{state}")
 }

@@ -1,3 +1,4 @@
+mod TimedKeys
 mod TimedLoops
 pub mod PlannedOrder
 pub mod TimedSteps

@@ -23,7 +23,8 @@ use Rattle.graph.specs.Work.{job_count_of, precedes}
 use Rattle.plan.specs.Plan.{processor_at, start_at}
 use Rattle.promises.specs.Turns.{Run, Between, is_finished, finished_count, next_job, is_ready}
 use Rattle.turns.specs.Order.{is_left, next_left}
-use Rattle.turns.specs.Lent.{row_at, RunTables}
+use Rattle.turns.specs.Lent.{RunTables}
+use Rattle.turns.specs.declared.planned.Planned.{Planned}
 
 -- ---- counts
 
@@ -97,14 +98,14 @@ module _ (r : Run) (c : Between) (row : Row) (is : c.finished ≡ table (job_cou
         (λ t. all_make jobs (is_finished c) λ i h. finished_at i h ∙ count_full jobs (marked row) (sym (count_below row jobs few alone) ∙ eqb-true (count_of row) jobs t) i h)
 
   -- those before job j have finished
-  module _ {program counts kinds processes before first after : List ℕ} {n : ℕ} (t : RunTables r program counts kinds processes before first after n) (few : n ≤ 128) (j : ℕ) (h : j < job_count_of r.work) where
-    pub ready_is : inside_of (row_at before j) row ≡ is_ready r c j
+  module _ {planned : Planned} (t : RunTables r planned) (few : planned.jobs ≤ 128) (j : ℕ) (h : j < job_count_of r.work) where
+    pub ready_is : inside_of (get_or planned.before j no_marks) row ≡ is_ready r c j
     unfolding inside_of is_ready
-    ready_is = same_test (all 128 (λ i. not (marked (row_at before j) i) || marked row i)) (all jobs (λ i. not (precedes r.work i j) || is_finished c i))
+    ready_is = same_test (all 128 (λ i. not (marked (get_or planned.before j no_marks) i) || marked row i)) (all jobs (λ i. not (precedes r.work i j) || is_finished c i))
         (λ e. all_make jobs (λ i. not (precedes r.work i j) || is_finished c i) λ i l.
         let b : i < 128 = omega (arith, t.tables.count) in
-        rw (finished_at i l, ← t.row i j b h) (all_true 128 (λ i. not (marked (row_at before j) i) || marked row i) e i b))
-        (λ e. all_make 128 (λ i. not (marked (row_at before j) i) || marked row i) λ i b.
+        rw (finished_at i l, ← t.row i j b h) (all_true 128 (λ i. not (marked (get_or planned.before j no_marks) i) || marked row i) e i b))
+        (λ e. all_make 128 (λ i. not (marked (get_or planned.before j no_marks) i) || marked row i) λ i b.
         elim (dec_lt i jobs) [
           | yes l ↦ rw (← finished_at i l, t.row i j b h) (all_true jobs (λ i. not (precedes r.work i j) || is_finished c i) e i l)
           | no l ↦ rw (t.row i j b h) (split (precedes r.work i j)

@@ -1,11 +1,11 @@
 -- The loop of `frames::run`: after each frame that has ended, the next one begins.
 use Prim.Native.Nat.{ℕ, suc, ◌+◌, ◌-◌, ◌*◌, ◌≤◌, ◌<◌}
 use mathlib.Core.Path.{◌≡◌, refl, sym, ap, ap₂, ◌∙◌}
-use mathlib.Core.Bool.{true, false}
 use mathlib.Core.List.{List, ◌++◌}
 use native.Mathlib.Nat.{mul_comm, mul_assoc, mul-le-mul, mul-le-mul_right, suc-mul}
 use native.Mathlib.Numerals.{add-one}
 use native.Mathlib.Omega.{arith}
+use Rattle.std.specs.Prelude.{Some, None}
 use lib.ListN.{length, take, drop, length-drop, replicate, length-append, length-replicate}
 use lib.Seq.{length-take-le, get_or-take}
 use borrow.Rule.Slice.PartMut.{put_mid, same_len_mid}
@@ -16,6 +16,7 @@ use Rattle.zero_delay.specs.RunLaws.{sample_after}
 use Rattle.promises.specs.Turns.{Run, Between, finished_count, turns, at_start}
 use Rattle.promises.specs.TurnLaws.{turns_to, to_start, to_all, each_counted, last_waits}
 use Rattle.turns.specs.Lent.{Begins, loss_in, FrameBegun, FrameNeeds, FrameDone, FrameTurns, RunBegun, RunNeeds, RunTurns}
+use Rattle.turns.specs.declared.planned.Planned.{Planned}
 use Rattle.turns.specs.declared.frames.FrameTurned.{FrameTurned}
 use Rattle.turns.proofs.FrameMarks.{none_finished}
 use Rattle.turns.proofs.Parts.{part_before, put_before}
@@ -50,18 +51,18 @@ pub record AtFrame (r : Run) (rest list : List ℕ) (passed working f : ℕ) (ou
   pub lost : (ch : ℕ) → loss_in words ch ≤ 3168 * f
 
 -- in every run that the tables are of
-pub record FramesTo (program counts kinds processes before first after : List ℕ) (jobs frames : ℕ) (list input output₀ variables₀ words₀ : List ℕ)
+pub record FramesTo (planned : Planned) (frames : ℕ) (list input output₀ variables₀ words₀ : List ℕ)
     (passed working f : ℕ) (output variables words : List ℕ) : Type 0 where
   pub within : f ≤ frames
   pub passed_most : passed ≤ length list
   pub size : length output ≡ length output₀
   pub sound : SoundWords words
-  pub each : (r : Run) (rest : List ℕ) → RunBegun r rest program counts kinds processes before first after jobs frames input output₀ variables₀ words₀
+  pub each : (r : Run) (rest : List ℕ) → RunBegun r rest planned frames input output₀ variables₀ words₀
       → AtFrame r rest list passed working f output variables words
 
-module _ {program counts kinds processes before first after : List ℕ} {jobs frames : ℕ} {list input output₀ variables₀ words₀ : List ℕ}
-    (needs : RunNeeds program counts kinds processes before first after jobs frames list input output₀ variables₀ words₀) where
-  pub start : FramesTo program counts kinds processes before first after jobs frames list input output₀ variables₀ words₀ 0 0 0 output₀ variables₀ words₀
+module _ {planned : Planned} {frames : ℕ} {list input output₀ variables₀ words₀ : List ℕ}
+    (needs : RunNeeds planned frames list input output₀ variables₀ words₀) where
+  pub start : FramesTo planned frames list input output₀ variables₀ words₀ 0 0 0 output₀ variables₀ words₀
   unfolding at_start
   start = record {
     within = omega arith;
@@ -84,45 +85,49 @@ module _ {program counts kinds processes before first after : List ℕ} {jobs fr
         };
   }
 
+  -- and it lies within the run's words, which are few
+  pub part_few : {f : ℕ} → f < frames → f * (2 * planned.jobs) + 2 * planned.jobs ≤ 25600
+  part_few {f} h = omega (arith, part_within f planned.jobs frames h, needed_most planned.jobs frames needs.ready.few needs.few)
+
   module _ {passed working f : ℕ} {output variables words : List ℕ}
-      (to : FramesTo program counts kinds processes before first after jobs frames list input output₀ variables₀ words₀ passed working f output variables words) where
+      (to : FramesTo planned frames list input output₀ variables₀ words₀ passed working f output variables words) where
     -- while frames are left
     module _ (on : f < frames) where
       abbrev from : ℕ
-      from = f * (2 * jobs)
+      from = f * (2 * planned.jobs)
 
-      pub in_input : f * (2 * jobs) + 2 * jobs ≤ length input
-      in_input = omega (arith, part_within f jobs frames on, needs.input_there)
+      pub in_input : f * (2 * planned.jobs) + 2 * planned.jobs ≤ length input
+      in_input = omega (arith, part_within f planned.jobs frames on, needs.input_there)
 
-      output_size : length output₀ ≡ 2 * (jobs * frames) + length needs.rest
+      output_size : length output₀ ≡ 2 * (planned.jobs * frames) + length needs.rest
       output_size =
           let b = needs.begun in
           ap length b.blank ∙ length-append (replicate (2 * (job_count_of needs.run.work * needs.run.asked)) 0) needs.rest
           ∙ ap (λ (n : ℕ). n + length needs.rest) (length-replicate {A = ℕ} (2 * (job_count_of needs.run.work * needs.run.asked)) 0
           ∙ ap₂ (λ (J F : ℕ). 2 * (J * F)) b.tables.tables.count b.asked)
 
-      pub in_output : f * (2 * jobs) + 2 * jobs ≤ length output
-      in_output = omega (arith, part_within f jobs frames on, output_size, to.size)
+      pub in_output : f * (2 * planned.jobs) + 2 * planned.jobs ≤ length output
+      in_output = omega (arith, part_within f planned.jobs frames on, output_size, to.size)
 
-      module _ {k : ℕ} (wide : k ≡ 2 * jobs) where
-        module _ (r : Run) (rest : List ℕ) (begun : RunBegun r rest program counts kinds processes before first after jobs frames input output₀ variables₀ words₀) where
+      module _ {k : ℕ} (wide : k ≡ 2 * planned.jobs) where
+        module _ (r : Run) (rest : List ℕ) (begun : RunBegun r rest planned frames input output₀ variables₀ words₀) where
           abbrev at : AtFrame r rest list passed working f output variables words
           at = to.each r rest begun
 
           abbrev J : ℕ
           J = job_count_of r.work
 
-          same_jobs : J ≡ jobs
+          same_jobs : J ≡ planned.jobs
           same_jobs = begun.tables.tables.count
 
           from_here : 2 * ((turns_to r list passed).frames * J) ≡ from
-          from_here = ap₂ (λ (n m : ℕ). 2 * (n * m)) at.frames_are same_jobs ∙ sym (from_is f jobs)
+          from_here = ap₂ (λ (n m : ℕ). 2 * (n * m)) at.frames_are same_jobs ∙ sym (from_is f planned.jobs)
 
           width_here : 2 * J ≡ k
           width_here = ap (λ (n : ℕ). 2 * n) same_jobs ∙ sym wide
 
           whole_long : from + k ≤ length (turns_to r list passed).words
-          whole_long = omega (arith, part_within f jobs frames on, at.long, ap₂ (λ (J F : ℕ). 2 * (J * F)) same_jobs begun.asked)
+          whole_long = omega (arith, part_within f planned.jobs frames on, at.long, ap₂ (λ (J F : ℕ). 2 * (J * F)) same_jobs begun.asked)
 
           part_is : take k (drop from output) ≡ take (2 * J) (drop (2 * ((turns_to r list passed).frames * J)) (turns_to r list passed).words)
           part_is =
@@ -130,7 +135,7 @@ module _ {program counts kinds processes before first after : List ℕ} {jobs fr
               ∙ part_before from k (turns_to r list passed).words rest whole_long
               ∙ sym (ap₂ (λ (a n : ℕ). take n (drop a (turns_to r list passed).words)) from_here width_here)
 
-          frame_begun : FrameBegun r program counts kinds processes before first after jobs list passed (take k (drop from input)) (take k (drop from output)) variables words
+          frame_begun : FrameBegun r planned list passed (take k (drop from input)) (take k (drop from output)) variables words
           frame_begun = record {
             tables = begun.tables;
             begins = at.begins;
@@ -139,18 +144,18 @@ module _ {program counts kinds processes before first after : List ℕ} {jobs fr
             passed = to.passed_most;
             samples = λ j h.
                 part_sample (drop from input) k j (omega arith)
-                ∙ ap (λ (n : ℕ). sample_at (drop n input) j) (from_is f jobs)
-                ∙ sample_after input (f * jobs) j
-                ∙ sym (ap₂ (λ (n m : ℕ). sample_at r.input (n * m + j)) at.frames_are same_jobs ∙ ap (λ (l : List ℕ). sample_at l (f * jobs + j)) begun.input_is);
+                ∙ ap (λ (n : ℕ). sample_at (drop n input) j) (from_is f planned.jobs)
+                ∙ sample_after input (f * planned.jobs) j
+                ∙ sym (ap₂ (λ (n m : ℕ). sample_at r.input (n * m + j)) at.frames_are same_jobs ∙ ap (λ (l : List ℕ). sample_at l (f * planned.jobs + j)) begun.input_is);
             room = omega (arith, from_here, width_here, whole_long);
             part = part_is;
             lost = λ ch. omega (arith, at.lost ch, at.frames_are);
           }
 
-        part_long : (l : List ℕ) → f * (2 * jobs) + 2 * jobs ≤ length l → 2 * jobs ≤ length (take k (drop from l))
+        part_long : (l : List ℕ) → f * (2 * planned.jobs) + 2 * planned.jobs ≤ length l → 2 * planned.jobs ≤ length (take k (drop from l))
         part_long l h = omega (arith, length-take-le k (drop from l) (omega (arith, length-drop from l)))
 
-        pub frame_needs : FrameNeeds program counts kinds processes before first after jobs list passed (take k (drop from input)) (take k (drop from output)) variables words
+        pub frame_needs : FrameNeeds planned list passed (take k (drop from input)) (take k (drop from output)) variables words
         frame_needs = record {
           run = needs.run;
           begun = frame_begun needs.run needs.rest needs.begun;
@@ -162,8 +167,8 @@ module _ {program counts kinds processes before first after : List ℕ} {jobs fr
         }
 
         module _ {part variables' words' : List ℕ} {turned : FrameTurned}
-            (did : FrameTurns program counts kinds processes before first after jobs list passed (take k (drop from input)) (take k (drop from output)) variables words part variables' words' turned) where
-          module _ (r : Run) (rest : List ℕ) (begun : RunBegun r rest program counts kinds processes before first after jobs frames input output₀ variables₀ words₀) where
+            (did : FrameTurns planned list passed (take k (drop from input)) (take k (drop from output)) variables words part variables' words' turned) where
+          module _ (r : Run) (rest : List ℕ) (begun : RunBegun r rest planned frames input output₀ variables₀ words₀) where
             abbrev done : FrameDone r list passed part variables' words' turned
             done = did.done r (frame_begun r rest begun)
 
@@ -194,8 +199,8 @@ module _ {program counts kinds processes before first after : List ℕ} {jobs fr
           pub put_size : length (put_mid from k output part) ≡ length output
           put_size = same_len_mid from k output part did.size
 
-          pub next : turned.ended ≡ true
-              → FramesTo program counts kinds processes before first after jobs frames list input output₀ variables₀ words₀
+          pub next : turned.jobs ≡ None
+              → FramesTo planned frames list input output₀ variables₀ words₀
               turned.passed (working + turned.working) (f + 1) (put_mid from k output part) variables' words'
           next e = rw (add-one f) (record {
             within = on;
@@ -215,16 +220,16 @@ module _ {program counts kinds processes before first after : List ℕ} {jobs fr
                 };
           })
 
-          pub stops : turned.ended ≡ false
-              → RunTurns program counts kinds processes before first after jobs frames list input output₀ variables₀ words₀ (put_mid from k output part) variables' words'
-              (record { frames = f; jobs = turned.jobs; working = working + turned.working })
-          stops e = record {
+          pub stops : {n : ℕ} → turned.jobs ≡ Some n
+              → RunTurns planned frames list input output₀ variables₀ words₀ (put_mid from k output part) variables' words'
+              (record { frames = f; jobs = n; working = working + turned.working })
+          stops {n} e = record {
             sound = did.sound;
             size = put_size ∙ to.size;
             most = working_most;
             done = λ r rest begun.
                 let d = did.done r (frame_begun r rest begun) in
-                let (out, frames, jobs) = d.left e in
+                let (out, frames, jobs) = d.left n e in
                 let all = to_all r list turned.passed out in
                 record {
                   frames_are = ap (λ (c : Between). c.frames) (sym all) ∙ frames ∙ (to.each r rest begun).frames_are;
@@ -238,7 +243,7 @@ module _ {program counts kinds processes before first after : List ℕ} {jobs fr
 
     -- all frames have ended
     pub finish : frames ≤ f
-        → RunTurns program counts kinds processes before first after jobs frames list input output₀ variables₀ words₀ output variables words
+        → RunTurns planned frames list input output₀ variables₀ words₀ output variables words
         (record { frames = frames; jobs = 0; working = working })
     finish h = record {
       sound = to.sound;

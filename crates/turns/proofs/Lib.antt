@@ -1,9 +1,6 @@
 mod OrderLoops
-mod RowLoop
 mod TurnJudge
-mod BlankLoop
 mod FrameMarks
-mod Coming
 mod Stepping
 mod OneTurn
 mod Parts

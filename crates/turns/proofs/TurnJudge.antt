@@ -1,14 +1,13 @@
--- The loop of `judging::judge`: the turns so far name processors.
-use Prim.Native.Nat.{ℕ, ◌+◌, ◌≤◌, ◌<◌}
-use mathlib.Core.Path.{◌≡◌, ◌∙◌}
-use mathlib.Core.List.{List}
-use native.Mathlib.Numerals.{add-one}
-use native.Mathlib.Omega.{arith}
-use lib.Dec.{ltb}
-use lib.ListN.{length, get_or}
-use borrow.Author.Tests.{lt-ltb, le-ltb}
-use Rattle.reply.specs.Result.{Result, done, refused, require, in_order}
-use Rattle.reply.specs.ResultLaws.{order_zero, order_more, order_refused}
+-- The turns of a call name processors, but for the first that is found.
+use Rattle.std.specs.Prelude.{ℕ, ◌≤◌, ◌≡◌, Some, None, false, List, length, get_or, ltb, leb}
+use Rattle.std.proofs.Common.{arith}
+use Rattle.std.specs.List.{position, position_or_len}
+use Rattle.std.proofs.lemmas.Grind.{common_steps}
+use Rattle.std.proofs.lemmas.List.Quantifiers.{position-Some}
+use Rattle.std.proofs.lemmas.List.Sums.{fails_before_first}
+use borrow.Author.Tests.{lt-ltb, le-ltb, leb-true, leb-false}
+use Rattle.reply.specs.Result.{Result, done, refused, require}
+use Rattle.reply.specs.ResultLaws.{order_make, order_refused}
 use Rattle.reply.specs.declared.Reply.TheVariants.{WrongTurn}
 use Rattle.promises.specs.Turns.{ok_turns}
 
@@ -16,22 +15,18 @@ module _ (m : ℕ) (list : List ℕ) where
   abbrev one : ℕ → Result (Unit {0})
   one k = require (ltb (get_or list k 0) m) WrongTurn k
 
-  -- the first t turns
-  pub record Named (t : ℕ) : Type 0 where
-    pub within : t ≤ length list
-    pub good : in_order t one ≡ done tt
+  named : (k : ℕ) → leb m (get_or list k 0) ≡ false → one k ≡ done tt
+  named k e = rw (lt-ltb (get_or list k 0) m (leb-false m (get_or list k 0) e))
 
-  pub start : Named 0
-  start = record { within = omega arith; good = order_zero one }
+  pub wrong : (i : ℕ) → position (leb m) list ≡ Some i → ok_turns m list ≡ refused WrongTurn i
+  unfolding ok_turns
+  wrong i e =
+      let (h, beyond, before) = position-Some (leb m) list i 0 e in
+      order_refused one i (length list) WrongTurn i h (order_make one i (λ k l. named k (before k l)))
+      (rw (le-ltb (get_or list i 0) m (leb-true m (get_or list i 0) beyond)))
 
-  module _ {t : ℕ} (so_far : Named t) where
-    pub go_on : t < length list → get_or list t 0 < m → Named (t + 1)
-    go_on h l = rw (add-one t) (record { within = h; good = order_more one t so_far.good ∙ rw (lt-ltb (get_or list t 0) m l) })
-
-    pub stop : t < length list → m ≤ get_or list t 0 → ok_turns m list ≡ refused WrongTurn t
-    unfolding ok_turns
-    stop h l = order_refused one t (length list) WrongTurn t h so_far.good (rw (le-ltb (get_or list t 0) m l))
-
-    pub finish : length list ≤ t → ok_turns m list ≡ done tt
-    unfolding ok_turns
-    finish h = let z : t ≡ length list = omega (arith, so_far.within) in rw z at so_far.good
+  pub all_named : position (leb m) list ≡ None → ok_turns m list ≡ done tt
+  unfolding ok_turns
+  all_named e =
+      let whole : length list ≤ position_or_len (leb m) list = grind (arith, common_steps) in
+      order_make one (length list) λ k h. named k (fails_before_first (leb m) list k 0 (omega arith))

@@ -1,79 +1,171 @@
 -- The cases of the call: the numbers of processors and frames, the file, the lent words; plan, samples and turns; and the run.
-use Rattle.std.specs.Prelude.{ℕ, ◌*◌, ◌≤◌, ◌<◌, ◌≡◌, refl, List, length}
+use Rattle.std.specs.Prelude.{ℕ, ◌*◌, ◌≤◌, ◌<◌, ◌≡◌, List, length, leb, ◌&&◌, Ok, Err}
 use Rattle.std.proofs.Common.{sym, ap, ◌∙◌, arith}
-use borrow.Author.Tests.{le-leb, lt-leb}
-use Rattle.reply.specs.Result.{Result, done, refused, and_then, answer_of}
-use Rattle.reply.specs.ResultLaws.{zero_means, other_means}
+use borrow.Author.Tests.{leb-true, le-leb, lt-leb}
+use Rattle.reply.specs.Result.{Result, done, refused, and_then}
+use Rattle.reply.specs.ResultLaws.{require_done}
 use Rattle.reply.specs.Reply.{reply_number}
-use Rattle.reply.specs.declared.Answer.{Answer}
+use Rattle.reply.specs.Call.{ok_processors, ok_frames, room_of}
+use Rattle.reply.specs.Tests.{both}
+use Rattle.std.specs.declared.result.Result as Std
+use Rattle.reply.specs.Told.{told, judged, refusal_in}
+use Rattle.reply.specs.declared.Refusal.{Refusal}
 use Rattle.reply.specs.declared.Reply.{Reply}
 use Rattle.reply.specs.declared.Reply.TheVariants.{OutOfRange, ShortBuffer}
 use Rattle.graph.specs.Work.{Work, load_work, job_count_of}
 use Rattle.graph.specs.Graph.{frame_file}
-use Rattle.graph.specs.FrameOf.{FrameOf, work_in, jobs_is, file_accepted, file_refused}
+use Rattle.graph.specs.FrameOf.{FrameOf, work_in, jobs_is, file_frame, file_accepted, file_refused}
 use Rattle.graph.specs.declared.Framed.{Framed}
 use Rattle.machine.specs.Samples.{ok_samples}
-use Rattle.machine.specs.SampleLaws.{honest_samples}
 use Rattle.plan.specs.Plan.{checked_by}
 use Rattle.plan.specs.CheckTold.{Judged}
-use Rattle.plan.proofs.CheckLaws.{honest_check}
 use Rattle.plan.proofs.CallLaws.{frame_tables}
+use Rattle.plan.proofs.ToldSteps.{judged_done, refused_told, accepted_zero, file_told}
 use Rattle.promises.specs.Turns.{Between, ok_turns, turn_work, turn_call}
 use Rattle.turns.specs.Turned.{turned_of, turn_filled}
-use Rattle.turns.specs.Calls.{refused_with, judged_by, ran_in}
-use Rattle.turns.specs.CallLaws.{honest_judged, plan_refused, sample_refused, turns_judged}
+use Rattle.turns.specs.Calls.{refused_with, turn_ran, judged_by, ran_in}
+use Rattle.turns.specs.CallLaws.{all_judged}
 use Rattle.turns.specs.declared.TurnRan.{TurnRan}
 
--- ---- plan, samples and turns
+-- ---- what a step told
 
--- what was told of a frame's tables, of its work
-module _ {framed : Framed} (frame : FrameOf framed) where
-  pub plan_told : (m : ℕ) (plan : List ℕ) {r : Answer} → Judged framed.jobs framed.before framed.job_count m plan r → r ≡ answer_of (checked_by (work_in framed) m plan)
-  plan_told m plan judged = judged.is (work_in framed) (frame_tables frame)
+-- so many processors and frames
+pub small_processors : {m : ℕ} → Ok tt ≡ judged (ok_processors m) → m ≤ 4
+small_processors {m} e = leb-true m 4 (both (leb 1 m) (leb m 4) (require_done (leb 1 m && leb m 4) OutOfRange 0 (judged_done (ok_processors m) e))).1
 
-  pub samples_told : (frames : ℕ) (input : List ℕ) {r : Answer} → r ≡ answer_of (ok_samples (framed.job_count * frames) input)
-      → r ≡ answer_of (ok_samples (job_count_of (work_in framed) * frames) input)
-  samples_told frames input told = told ∙ ap (λ (J : ℕ). answer_of (ok_samples (J * frames) input)) (jobs_is frame)
+pub small_frames : {frames : ℕ} → Ok tt ≡ judged (ok_frames frames) → frames ≤ 100
+small_frames {frames} e = leb-true frames 100 (both (leb 1 frames) (leb frames 100) (require_done (leb 1 frames && leb frames 100) OutOfRange 0 (judged_done (ok_frames frames) e))).1
 
-module _ (w : Work) (m frames : ℕ) (plan input list : List ℕ) where
-  -- the plan has a fault
-  pub judged_plan : {answer : Answer} → answer ≡ answer_of (checked_by w m plan) → (reply_number answer.reply ≡ 0 → ⊥) → answer ≡ answer_of (judged_by w m frames plan input list)
-  judged_plan told other =
-      other_means (checked_by w m plan) (λ z. other (rw told z)) λ reply place e.
-      told ∙ rw (e, plan_refused w m frames plan input list e) refl
+-- what a step told that gives a run
+pub run_refused : {r : Result Between} {e : Refusal} → r ≡ refused e.reply e.place → Err e ≡ told turn_ran r
+run_refused h = rw h
 
-  module _ {checked : Answer} (told : checked ≡ answer_of (checked_by w m plan)) (zero : reply_number checked.reply ≡ 0) where
-    good_check : checked_by w m plan ≡ done tt
-    good_check = zero_means {P = checked_by w m plan ≡ done tt} (checked_by w m plan) (honest_check w m plan) (rw told at zero) λ ok e. e
+pub refused_filled : {r : Result Between} {reply : Reply} {place : ℕ} (output : List ℕ) → r ≡ refused reply place → output ≡ turn_filled r output
+unfolding turn_filled
+refused_filled output e = rw e
 
-    -- a sample is wrong
-    pub judged_sample : {answer : Answer} → answer ≡ answer_of (ok_samples (job_count_of w * frames) input) → (reply_number answer.reply ≡ 0 → ⊥)
-        → answer ≡ answer_of (judged_by w m frames plan input list)
-    judged_sample told other =
-        other_means (ok_samples (job_count_of w * frames) input) (λ z. other (rw told z)) λ reply place e.
-        told ∙ rw (e, sample_refused w m frames plan input list good_check e) refl
+pub run_done : {r : Result Between} {c : Between} {x : TurnRan} → r ≡ done c → x ≡ turn_ran c → Ok x ≡ told turn_ran r
+run_done h e = rw (h, e)
 
-    -- the turns decide
-    pub judged_turns : {sampled answer : Answer} → sampled ≡ answer_of (ok_samples (job_count_of w * frames) input) → reply_number sampled.reply ≡ 0
-        → answer ≡ answer_of (ok_turns m list) → answer ≡ answer_of (judged_by w m frames plan input list)
-    judged_turns sampled none told =
-        zero_means (ok_samples (job_count_of w * frames) input) (honest_samples (job_count_of w * frames) input) (rw sampled at none) λ ok e.
-        told ∙ ap answer_of (sym (turns_judged w m frames plan input list good_check e))
+pub same_run : {r q : Result Between} {x : Std.Result TurnRan Refusal} → r ≡ q → x ≡ told turn_ran q → x ≡ told turn_ran r
+same_run e f = f ∙ ap (told turn_ran) (sym e)
+
+pub same_filled : {r q : Result Between} {after : List ℕ} (output : List ℕ) → r ≡ q → after ≡ turn_filled q output → after ≡ turn_filled r output
+same_filled output e f = f ∙ ap (λ (r : Result Between). turn_filled r output) (sym e)
+
+-- what the call returns of it
+pub ran_is : (r : Result Between) {x : TurnRan} → Ok x ≡ told turn_ran r → x ≡ turned_of r
+ran_is (done c) h = cc
+ran_is (refused reply place) h = cc
+
+pub refusal_is : (r : Result Between) {e : Refusal} {x : TurnRan} → Err e ≡ told turn_ran r → x ≡ refused_with e → x ≡ turned_of r
+unfolding turned_of
+refusal_is r h f = f ∙ rw (refused_told turn_ran r h)
 
 -- ---- the run of a work
 
-then_then : (a b c : Result (Unit {0})) (x : Between)
-    → and_then a (λ ok₁. and_then b λ ok₂. and_then c λ ok₃. done x) ≡ and_then (and_then a λ ok₁. and_then b λ ok₂. c) (λ ok. done x)
-then_then (done a) (done b) c x = refl
-then_then (done a) (refused reply place) c x = refl
-then_then (refused reply place) b c x = refl
+-- what was told of a frame's tables, of its work
+module _ {framed : Framed} (frame : FrameOf framed) where
+  pub plan_told : (m : ℕ) (plan : List ℕ) {r : Std.Result (Unit {0}) Refusal} → Judged framed.jobs framed.before framed.job_count m plan r → r ≡ judged (checked_by (work_in framed) m plan)
+  plan_told m plan told = told.is (work_in framed) (frame_tables frame)
+
+-- six steps, and then x
+abbrev pub steps : {A : Type 0} → (s₁ s₂ s₃ s₄ s₅ s₆ : Result (Unit {0})) → A → Result A
+steps s₁ s₂ s₃ s₄ s₅ s₆ x =
+    and_then s₁ λ ok₁. and_then s₂ λ ok₂. and_then s₃ λ ok₃. and_then s₄ λ ok₄. and_then s₅ λ ok₅. and_then s₆ λ ok₆. done x
+
+module _ {framed : Framed} (frame : FrameOf framed) (m frames : ℕ) (plan input list output : List ℕ) where
+  abbrev J : ℕ
+  J = framed.job_count
+
+  pub work_steps : turn_work (work_in framed) m frames plan input list output
+      ≡ steps (room_of (2 * framed.job_count) (length plan)) (room_of (2 * (framed.job_count * frames)) (length input)) (room_of (2 * (framed.job_count * frames)) (length output))
+      (checked_by (work_in framed) m plan) (ok_samples (framed.job_count * frames) input) (ok_turns m list) (ran_in framed frames plan input list)
+  unfolding turn_work
+  work_steps = rw (jobs_is frame)
+
+  pub plan_short : {e : Refusal} → Err e ≡ judged (room_of (2 * framed.job_count) (length plan)) → turn_work (work_in framed) m frames plan input list output ≡ refused e.reply e.place
+  plan_short e = work_steps ∙ rw (refused_told (λ ok. ok) (room_of (2 * framed.job_count) (length plan)) e)
+
+  module _ (planned : Ok tt ≡ judged (room_of (2 * framed.job_count) (length plan))) where
+    has_plan : room_of (2 * framed.job_count) (length plan) ≡ done tt
+    has_plan = judged_done (room_of (2 * framed.job_count) (length plan)) planned
+
+    pub input_short : {e : Refusal} → Err e ≡ judged (room_of (2 * (framed.job_count * frames)) (length input)) → turn_work (work_in framed) m frames plan input list output ≡ refused e.reply e.place
+    input_short e = work_steps ∙ rw (has_plan, refused_told (λ ok. ok) (room_of (2 * (framed.job_count * frames)) (length input)) e)
+
+    module _ (there : Ok tt ≡ judged (room_of (2 * (framed.job_count * frames)) (length input))) where
+      has_input : room_of (2 * (framed.job_count * frames)) (length input) ≡ done tt
+      has_input = judged_done (room_of (2 * (framed.job_count * frames)) (length input)) there
+
+      pub output_short : {e : Refusal} → Err e ≡ judged (room_of (2 * (framed.job_count * frames)) (length output)) → turn_work (work_in framed) m frames plan input list output ≡ refused e.reply e.place
+      output_short e = work_steps ∙ rw (has_plan, has_input, refused_told (λ ok. ok) (room_of (2 * (framed.job_count * frames)) (length output)) e)
+
+      module _ (room : Ok tt ≡ judged (room_of (2 * (framed.job_count * frames)) (length output))) where
+        has_output : room_of (2 * (framed.job_count * frames)) (length output) ≡ done tt
+        has_output = judged_done (room_of (2 * (framed.job_count * frames)) (length output)) room
+
+        pub plan_faulty : {e : Refusal} → Err e ≡ judged (checked_by (work_in framed) m plan) → turn_work (work_in framed) m frames plan input list output ≡ refused e.reply e.place
+        plan_faulty e = work_steps ∙ rw (has_plan, has_input, has_output, refused_told (λ ok. ok) (checked_by (work_in framed) m plan) e)
+
+        module _ (good : Ok tt ≡ judged (checked_by (work_in framed) m plan)) where
+          good_plan : checked_by (work_in framed) m plan ≡ done tt
+          good_plan = judged_done (checked_by (work_in framed) m plan) good
+
+          pub sample_wrong : {e : Refusal} → Err e ≡ judged (ok_samples (framed.job_count * frames) input) → turn_work (work_in framed) m frames plan input list output ≡ refused e.reply e.place
+          sample_wrong e = work_steps ∙ rw (has_plan, has_input, has_output, good_plan, refused_told (λ ok. ok) (ok_samples (framed.job_count * frames) input) e)
+
+          module _ (sampled : Ok tt ≡ judged (ok_samples (framed.job_count * frames) input)) where
+            good_samples : ok_samples (framed.job_count * frames) input ≡ done tt
+            good_samples = judged_done (ok_samples (framed.job_count * frames) input) sampled
+
+            pub turn_wrong : {e : Refusal} → Err e ≡ judged (ok_turns m list) → turn_work (work_in framed) m frames plan input list output ≡ refused e.reply e.place
+            turn_wrong e = work_steps ∙ rw (has_plan, has_input, has_output, good_plan, good_samples, refused_told (λ ok. ok) (ok_turns m list) e)
+
+            module _ (named : Ok tt ≡ judged (ok_turns m list)) where
+              good_turns : ok_turns m list ≡ done tt
+              good_turns = judged_done (ok_turns m list) named
+
+              pub all_good : turn_work (work_in framed) m frames plan input list output ≡ done (ran_in framed frames plan input list)
+              all_good = work_steps ∙ rw (has_plan, has_input, has_output, good_plan, good_samples, good_turns)
+
+              pub good_judged : judged_by (work_in framed) m frames plan input list ≡ done tt
+              good_judged = all_judged (work_in framed) m frames plan input list good_plan (rw (jobs_is frame) at good_samples) good_turns
+
+-- ---- the call
+
+module _ (file : List ℕ) (m frames : ℕ) (plan input list output : List ℕ) where
+  pub processors_refused : {e : Refusal} → Err e ≡ judged (ok_processors m) → turn_call file m frames plan input list output ≡ refused e.reply e.place
+  unfolding turn_call
+  processors_refused e = rw (refused_told (λ ok. ok) (ok_processors m) e)
+
+  module _ (few : Ok tt ≡ judged (ok_processors m)) where
+    pub frames_refused : {e : Refusal} → Err e ≡ judged (ok_frames frames) → turn_call file m frames plan input list output ≡ refused e.reply e.place
+    unfolding turn_call
+    frames_refused e = rw (judged_done (ok_processors m) few, refused_told (λ ok. ok) (ok_frames frames) e)
+
+    module _ (asked : Ok tt ≡ judged (ok_frames frames)) {framed : Framed} (told_frame : framed ≡ frame_file file) where
+      pub file_stops : {e : Refusal} → Err e ≡ refusal_in framed.answer → turn_call file m frames plan input list output ≡ refused e.reply e.place
+      unfolding turn_call
+      file_stops e = rw (
+        judged_done (ok_processors m) few,
+        judged_done (ok_frames frames) asked,
+        refused_told (λ (w : Work). tt) (load_work file) (e ∙ file_told file told_frame),
+      )
+
+      module _ (accepted : Ok tt ≡ refusal_in framed.answer) where
+        pub frame_there : FrameOf framed
+        frame_there = file_frame file told_frame (accepted_zero framed.answer accepted)
+
+        pub frame_runs : turn_call file m frames plan input list output ≡ turn_work (work_in framed) m frames plan input list output
+        unfolding turn_call
+        frame_runs = rw (judged_done (ok_processors m) few, judged_done (ok_frames frames) asked) (file_accepted file told_frame _ (accepted_zero framed.answer accepted))
+
+-- ---- the same cases, by the numbers
 
 module _ {framed : Framed} (frame : FrameOf framed) (m frames : ℕ) (plan input list output : List ℕ) where
   abbrev w : Work
   w = work_in framed
-
-  abbrev end : Between
-  end = ran_in framed frames plan input list
 
   abbrev needed : 2 * (framed.job_count * frames) ≡ 2 * (job_count_of (work_in framed) * frames)
   needed = ap (λ (n : ℕ). 2 * (n * frames)) (jobs_is frame)
@@ -95,48 +187,6 @@ module _ {framed : Framed} (frame : FrameOf framed) (m frames : ℕ) (plan input
         le-leb (2 * (job_count_of w * frames)) (length input) (omega (arith, needed)),
         lt-leb (2 * (job_count_of w * frames)) (length output) (omega (arith, needed)),
       )
-
-      module _ (room : 2 * (framed.job_count * frames) ≤ length output) where
-        after_rooms : turn_work (work_in framed) m frames plan input list output ≡ and_then (judged_by (work_in framed) m frames plan input list) (λ ok. done (ran_in framed frames plan input list))
-        unfolding turn_work judged_by
-        after_rooms =
-            rw (
-              le-leb (2 * job_count_of w) (length plan) (omega (arith, jobs_is frame)),
-              le-leb (2 * (job_count_of w * frames)) (length input) (omega (arith, needed)),
-              le-leb (2 * (job_count_of w * frames)) (length output) (omega (arith, needed)),
-            )
-            (then_then (checked_by w m plan) (ok_samples (job_count_of w * frames) input) (ok_turns m list) end)
-
-        module _ {judged : Answer} (told : judged ≡ answer_of (judged_by (work_in framed) m frames plan input list)) where
-          pub refused_run : (reply_number judged.reply ≡ 0 → ⊥) → turn_work (work_in framed) m frames plan input list output ≡ refused judged.reply judged.place
-          refused_run other =
-              other_means (judged_by w m frames plan input list) (λ z. other (rw told z)) λ reply place e.
-              after_rooms ∙ rw (told, e) refl
-
-          pub good_judged : reply_number judged.reply ≡ 0 → judged_by (work_in framed) m frames plan input list ≡ done tt
-          good_judged zero = zero_means {P = judged_by w m frames plan input list ≡ done tt} (judged_by w m frames plan input list) (honest_judged w m frames plan input list) (rw told at zero) λ ok e. e
-
-          pub good_run : reply_number judged.reply ≡ 0
-              → turn_work (work_in framed) m frames plan input list output ≡ done (ran_in framed frames plan input list)
-          good_run zero = after_rooms ∙ rw (good_judged zero) refl
-
--- ---- what is returned and written
-
-pub refused_ran : {r : Result Between} {reply : Reply} {place : ℕ} → r ≡ refused reply place → refused_with (record { reply = reply; place = place }) ≡ turned_of r
-unfolding turned_of
-refused_ran e = rw e
-
-pub refused_filled : {r : Result Between} {reply : Reply} {place : ℕ} (output : List ℕ) → r ≡ refused reply place → output ≡ turn_filled r output
-unfolding turn_filled
-refused_filled output e = rw e
-
-pub same_ran : {r q : Result Between} {x : TurnRan} → r ≡ q → x ≡ turned_of q → x ≡ turned_of r
-same_ran e f = f ∙ ap turned_of (sym e)
-
-pub same_filled : {r q : Result Between} {after : List ℕ} (output : List ℕ) → r ≡ q → after ≡ turn_filled q output → after ≡ turn_filled r output
-same_filled output e f = f ∙ ap (λ (r : Result Between). turn_filled r output) (sym e)
-
--- ---- the call
 
 module _ (file : List ℕ) (m frames : ℕ) (plan input list output : List ℕ) where
   pub no_processors : m < 1 → turn_call file m frames plan input list output ≡ refused OutOfRange 0

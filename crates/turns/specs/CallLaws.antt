@@ -1,12 +1,12 @@
 -- The frame of a valid network and a plan without faults have all that a turn run needs, and the run on them is the run of the definition.
-use Rattle.std.specs.Prelude.{ℕ, ◌+◌, ◌-◌, ◌*◌, ◌≤◌, ◌<◌, refl, ◌⊎◌, ltb, replicate}
+use Rattle.std.specs.Prelude.{ℕ, zero, suc, ◌<◌, None, ◌+◌, ◌-◌, ◌*◌, ◌≤◌, refl, ◌⊎◌, ltb, replicate}
 use Rattle.std.proofs.Math.Path.{◌≡◌, sym, ap, subst}
-use Rattle.std.proofs.Common.{◌∙◌, inl, inr, arith, length-append, length-drop}
+use Rattle.std.proofs.Common.{◌∙◌, inl, inr, arith, mul-le-mul, length-append, length-drop}
 use mathlib.Core.List.{List, ◌++◌, map}
 use Rattle.std.proofs.Math.Nat.{zero-add}
-use Rattle.std.proofs.Math.ListN.{length, get_or, drop}
+use Rattle.std.proofs.Math.ListN.{length, get_or, take, drop}
 use Rattle.std.proofs.lemmas.List.{length-replicate}
-use Rattle.std.proofs.Math.Seq.{sets}
+use Rattle.std.proofs.Math.Seq.{sets, length-take-le}
 use Rattle.std.proofs.lemmas.List.Edits.{sets-eq}
 use borrow.Author.Tests.{ltb-true}
 use Rattle.reply.specs.Result.{done, refused}
@@ -20,34 +20,36 @@ use Rattle.network.specs.ListLaws.{get_or_table, fill_at}
 use Rattle.graph.specs.Work.{Work, work_of, job_count_of, cost, precedes}
 use Rattle.graph.proofs.WorkLaws.{goes_forward}
 use Rattle.graph.specs.Graph.{rows_to}
-use Rattle.graph.specs.FrameOf.{FrameOf, work_in, count_is, work_is}
-use Rattle.graph.specs.Columns.{Column}
+use Rattle.graph.specs.FrameOf.{FrameOf, work_in, count_is, work_is, few_jobs}
 use Rattle.graph.specs.Promise.{jobs_are}
-use Rattle.graph.specs.Sequence.{no_job}
-use Rattle.graph.specs.declared.Job.{Job}
 use Rattle.graph.specs.declared.Framed.{Framed}
 use Rattle.machine.specs.HeldOf.{held_of}
 use Rattle.machine.specs.Samples.{ok_samples}
 use Rattle.machine.specs.SampleLaws.{honest_samples}
 use Rattle.machine.specs.Words.{contents_in}
+use Rattle.machine.specs.Acting.{kinds_in}
 use Rattle.machine.specs.StartLaws.{no_words, start_sound, start_state_lem, start_room}
-use Rattle.machine.specs.Acting.{KindsTold}
 use Rattle.zero_delay.specs.CallLaws.{tables, ready}
+use Rattle.zero_delay.specs.Lent.{TablesOf, Ready}
 use Rattle.plan.specs.Plan.{start_at, end_at, checked_by}
 use Rattle.plan.specs.Feasible.{Feasible}
 use Rattle.plan.proofs.CheckLaws.{checked_feasible, honest_check}
 use Rattle.promises.specs.Turns.{Run, Between, turns, at_start, ok_turns}
 use Rattle.turns.specs.Turned.{turned_of, turn_filled}
 use Rattle.promises.specs.TurnLaws.{turns_to, to_all, each_counted}
-use Rattle.turns.specs.Order.{FirstIs, AfterIs, StartsApart}
-use Rattle.turns.specs.Lent.{row_at, RowWords, RunTables, RunBegun, RunNeeds, RunDone, RunTurns}
+use Rattle.turns.specs.Order.{job_from, firsts, FirstIs, AfterIs, StartsApart}
+use Rattle.turns.specs.Lent.{PlannedOf, RunTables, RunBegun, RunNeeds, RunDone, RunTurns}
 use Rattle.turns.specs.Calls.{judged_by, run_in, ran_in, Admitted}
 use Rattle.turns.specs.declared.TurnRan.{TurnRan}
+use Rattle.turns.specs.declared.planned.Planned.{Planned}
 use Rattle.turns.specs.declared.frames.Turnings.{Turnings}
 
 -- words cleared from the front
 cleared_size : (output : List ℕ) (n : ℕ) → n ≤ length output → length (replicate n 0 ++ drop n output) ≡ length output
 cleared_size output n h = length-append (replicate n 0) (drop n output) ∙ omega (arith, length-replicate {A = ℕ} n 0, length-drop n output)
+
+pub blanked : (output : List ℕ) {filled : List ℕ} {n : ℕ} → n ≤ length output → filled ≡ replicate (length (take n output)) 0 → filled ++ drop n output ≡ replicate n 0 ++ drop n output
+blanked output {filled} {n} h e = ap (λ (l : List ℕ). l ++ drop n output) (e ∙ ap (λ (k : ℕ). replicate k 0) (length-take-le n output h))
 
 -- ---- what is judged
 
@@ -74,6 +76,10 @@ module _ (w : Work) (m frames : ℕ) (plan input list : List ℕ) where
   unfolding judged_by
   turns_judged e f = rw (e, f)
 
+  pub all_judged : checked_by w m plan ≡ done tt → ok_samples (job_count_of w * frames) input ≡ done tt → ok_turns m list ≡ done tt
+      → judged_by w m frames plan input list ≡ done tt
+  all_judged e f g = turns_judged e f ∙ g
+
   -- all are good
   module _ (good : judged_by w m frames plan input list ≡ done tt) where
     pub good_plan : checked_by w m plan ≡ done tt
@@ -92,6 +98,23 @@ module _ (w : Work) (m frames : ℕ) (plan input list : List ℕ) where
 
 -- ---- the tables
 
+firsts_are : (plan : List ℕ) (jobs : ℕ) → FirstIs plan jobs (firsts plan jobs)
+firsts_are plan jobs = record { each = each; four = refl }
+  where
+    each : (m : ℕ) → m < 4 → get_or (firsts plan jobs) m None ≡ job_from plan jobs m 0
+    each zero h = refl
+    each (suc zero) h = refl
+    each (suc (suc zero)) h = refl
+    each (suc (suc (suc zero))) h = refl
+    each (suc (suc (suc (suc m)))) h = absurd (omega arith)
+
+module _ {framed : Framed} (frame : FrameOf framed) (plan : List ℕ) {planned : Planned} (of : PlannedOf framed plan planned) where
+  planned_tables : TablesOf (work_of frame.net) planned.tables.program planned.tables.counts (kinds_in planned.tables.channels) planned.processes planned.jobs
+  planned_tables = rw (of.program, of.counts, of.channels, of.jobs) (tables frame (λ j h. of.processes.each j (omega (arith, few_jobs frame))))
+
+  planned_ready : Ready planned.tables.program planned.tables.counts (kinds_in planned.tables.channels) planned.processes planned.jobs
+  planned_ready = rw (of.program, of.counts, of.channels, of.jobs) (ready frame (λ j h. of.processes.each j (omega (arith, few_jobs frame))))
+
 module _ {framed : Framed} (frame : FrameOf framed) (m : ℕ) (plan : List ℕ) (good : checked_by (work_in framed) m plan ≡ done tt) where
   abbrev w : Work
   w = work_of frame.net
@@ -109,38 +132,42 @@ module _ {framed : Framed} (frame : FrameOf framed) (m : ℕ) (plan : List ℕ) 
       go i j a b (inl l) e = omega arith
       go i j a b (inr l) e = omega arith
 
-  module _ (frames : ℕ) (input : List ℕ) {kinds processes before first after : List ℕ}
-      (kinded : KindsTold framed.network.channels kinds) (told : Column no_job (λ (j : Job). j.process) framed.jobs processes)
-      (rowed : RowWords framed.before before) (firsts : FirstIs plan framed.job_count first) (afters : AfterIs plan framed.job_count after) where
+  module _ (frames : ℕ) (input : List ℕ) {planned : Planned} (of : PlannedOf framed plan planned) where
     abbrev here : Run
     here = record { work = work_of frame.net; asked = frames; plan = plan; input = input }
 
-    row_is : (i j : ℕ) → i < 128 → j < job_count_of (work_of frame.net) → marked (row_at before j) i ≡ precedes (work_of frame.net) i j
+    row_is : (i j : ℕ) → i < 128 → j < job_count_of (work_of frame.net) → marked (get_or planned.before j no_marks) i ≡ precedes (work_of frame.net) i j
     unfolding rows_to
     row_is i j b h =
         ap (λ (r : Row). marked r i)
-        (rowed.row j (omega (arith, (jobs_are frame.net frame.valid).most))
+        (ap (λ (l : List Row). get_or l j no_marks) of.before
         ∙ ap (λ (x : Framed). get_or x.before j no_marks) frame.is
         ∙ fill_at 128 no_marks (rows_to (job_count_of w) w.before) j
         ∙ get_or_table (job_count_of w) _ j no_marks h)
         ∙ marked_row _ i b
 
-    run_tables : RunTables here framed.network.actions framed.network.action_counts kinds processes before first after framed.job_count
+    run_tables : RunTables here planned
     run_tables = record {
-      tables = tables frame kinded told;
+      tables = planned_tables frame plan of;
       row = row_is;
       within = λ i j e. ((goes_forward frame.net frame.valid).within i j e).0;
-      firsts = subst (λ n. FirstIs plan n first) (count_is frame) firsts;
-      afters = subst (λ n. AfterIs plan n after) (count_is frame) afters;
+      firsts = rw of.firsts (subst (λ n. FirstIs plan n (firsts plan framed.job_count)) (count_is frame) (firsts_are plan framed.job_count));
+      afters = subst (λ n. AfterIs plan n planned.after) (count_is frame) of.afters;
       apart = starts_apart;
     }
 
 -- ---- the run
 
-module _ {framed : Framed} {m frames : ℕ} {plan input list output : List ℕ} (a : Admitted framed m frames plan input list output) {kinds processes before first after : List ℕ}
-    (kinded : KindsTold framed.network.channels kinds) (told : Column no_job (λ (j : Job). j.process) framed.jobs processes)
-    (rowed : RowWords framed.before before) (firsts : FirstIs plan framed.job_count first) (afters : AfterIs plan framed.job_count after)
-    {cleared : List ℕ} (blank : cleared ≡ replicate (2 * (framed.job_count * frames)) 0 ++ drop (2 * (framed.job_count * frames)) output) where
+pub few_words : {framed : Framed} {frames : ℕ} {plan input list output : List ℕ} {planned : Planned} → Admitted framed frames plan input list output → PlannedOf framed plan planned
+    → planned.jobs * frames ≤ 12800
+few_words a of = rw of.jobs (mul-le-mul (few_jobs a.roomy.frame) a.roomy.few)
+
+pub room_here : {framed : Framed} {frames : ℕ} {plan input list output : List ℕ} {planned : Planned} → Admitted framed frames plan input list output → PlannedOf framed plan planned
+    → 2 * (planned.jobs * frames) ≤ length output
+room_here a of = rw of.jobs a.roomy.output_there
+
+module _ {framed : Framed} {frames : ℕ} {plan input list output : List ℕ} (a : Admitted framed frames plan input list output) {planned : Planned} (of : PlannedOf framed plan planned)
+    {cleared : List ℕ} (blank : cleared ≡ replicate (2 * (planned.jobs * frames)) 0 ++ drop (2 * (planned.jobs * frames)) output) where
   abbrev frame : FrameOf framed
   frame = a.roomy.frame
 
@@ -150,33 +177,33 @@ module _ {framed : Framed} {m frames : ℕ} {plan input list output : List ℕ} 
   abbrev rest : List ℕ
   rest = drop (2 * (framed.job_count * frames)) output
 
-  begun : RunBegun run (drop (2 * (framed.job_count * frames)) output) framed.network.actions framed.network.action_counts kinds processes before first after
-      framed.job_count frames input cleared (replicate 96 0) no_words
+  cleared_is : cleared ≡ replicate (2 * (framed.job_count * frames)) 0 ++ rest
+  cleared_is = rw of.jobs at blank
+
+  begun : RunBegun run (drop (2 * (framed.job_count * frames)) output) planned frames input cleared (replicate 96 0) no_words
   begun = record {
-    tables = run_tables frame m plan (good_plan (work_in framed) m frames plan input list a.good) frames input kinded told rowed firsts afters;
+    tables = run_tables frame a.m plan (good_plan (work_in framed) a.m frames plan input list a.good) frames input of;
     asked = refl;
     input_is = refl;
-    blank = blank ∙ ap (λ (n : ℕ). replicate (2 * (n * frames)) 0 ++ rest) (count_is frame);
+    blank = cleared_is ∙ ap (λ (n : ℕ). replicate (2 * (n * frames)) 0 ++ rest) (count_is frame);
     state = start_state_lem;
     lost = λ ch. omega (arith, (start_room 4294967295 (omega arith)).room ch);
   }
 
-  pub run_needs : RunNeeds framed.network.actions framed.network.action_counts kinds processes before first after
-      framed.job_count frames list input cleared (replicate 96 0) no_words
+  pub run_needs : RunNeeds planned frames list input cleared (replicate 96 0) no_words
   run_needs = record {
     run = run;
     rest = rest;
     begun = begun;
-    ready = ready frame kinded told;
-    named = λ t h. omega (arith, turn_named (work_in framed) m frames plan input list a.good t h, a.roomy.processors);
+    ready = planned_ready frame plan of;
+    named = λ t h. omega (arith, turn_named (work_in framed) a.m frames plan input list a.good t h, a.roomy.processors);
     few = a.roomy.few;
-    input_there = a.roomy.input_there;
+    input_there = rw of.jobs a.roomy.input_there;
     sound = start_sound;
   }
 
   module _ {output' variables' words' : List ℕ} {turned : Turnings}
-      (did : RunTurns framed.network.actions framed.network.action_counts kinds processes before first after
-      framed.job_count frames list input cleared (replicate 96 0) no_words output' variables' words' turned) where
+      (did : RunTurns planned frames list input cleared (replicate 96 0) no_words output' variables' words' turned) where
     abbrev end : Between
     end = turns run list (at_start run)
 
@@ -229,7 +256,7 @@ module _ {framed : Framed} {m frames : ℕ} {plan input list output : List ℕ} 
         })
 
     pub same_size : length output' ≡ length output
-    same_size = did.size ∙ ap length blank ∙ cleared_size output (2 * (framed.job_count * frames)) a.roomy.output_there
+    same_size = did.size ∙ ap length cleared_is ∙ cleared_size output (2 * (framed.job_count * frames)) a.roomy.output_there
 
     pub filled_is : output' ≡ turn_filled (done (ran_in framed frames plan input list)) output
     unfolding turn_filled

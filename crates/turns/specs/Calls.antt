@@ -1,7 +1,7 @@
--- What the steps of the call give and know: a refusal, what is judged before anything runs, and a run that is not refused.
+-- What the steps of the call give and know: a refusal, a run, what is judged before anything runs, and a run that is not refused.
 use Rattle.std.specs.Prelude.{ℕ, ◌*◌, ◌≤◌, ◌≡◌, List, length, replicate}
 use Rattle.reply.specs.Result.{Result, done, and_then}
-use Rattle.reply.specs.declared.Answer.{Answer}
+use Rattle.reply.specs.declared.Refusal.{Refusal}
 use Rattle.graph.specs.Work.{Work, job_count_of}
 use Rattle.graph.specs.FrameOf.{FrameOf, work_in}
 use Rattle.graph.specs.declared.Framed.{Framed}
@@ -9,11 +9,16 @@ use Rattle.machine.specs.HeldOf.{no_held}
 use Rattle.machine.specs.Samples.{ok_samples}
 use Rattle.plan.specs.Plan.{checked_by}
 use Rattle.promises.specs.Turns.{Run, Between, turns, at_start, ok_turns}
+use Rattle.turns.specs.Turned.{turned_of}
 use Rattle.turns.specs.declared.TurnRan.{TurnRan}
 
 -- what a refused call returns
-abbrev pub refused_with : Answer → TurnRan
-refused_with answer = record { answer = answer; frames = 0; jobs = 0; working = 0; waiting = 0; variables = replicate 96 0; channels = replicate 16 no_held }
+abbrev pub refused_with : Refusal → TurnRan
+refused_with refusal = record { answer = record { reply = refusal.reply; place = refusal.place }; frames = 0; jobs = 0; working = 0; waiting = 0; variables = replicate 96 0; channels = replicate 16 no_held }
+
+-- and one that is done
+abbrev pub turn_ran : Between → TurnRan
+turn_ran c = turned_of (done c)
 
 -- plan, samples and turns, in this order
 unfoldable pub judged_by : Work → ℕ → ℕ → List ℕ → List ℕ → List ℕ → Result (Unit {0})
@@ -39,14 +44,8 @@ pub record Roomy (framed : Framed) (m frames : ℕ) (plan input output : List �
   pub input_there : 2 * (framed.job_count * frames) ≤ length input
   pub output_there : 2 * (framed.job_count * frames) ≤ length output
 
--- what can be judged: plan and input are long enough
-pub record Judgeable (framed : Framed) (frames : ℕ) (plan input : List ℕ) : Type 0 where
-  pub frame : FrameOf framed
-  pub few : frames ≤ 100
-  pub plan_there : 2 * framed.job_count ≤ length plan
-  pub input_there : 2 * (framed.job_count * frames) ≤ length input
-
 -- a run that is not refused: plan, samples and turns are good
-pub record Admitted (framed : Framed) (m frames : ℕ) (plan input list output : List ℕ) : Type 0 where
+pub record Admitted (framed : Framed) (frames : ℕ) (plan input list output : List ℕ) : Type 0 where
+  pub m : ℕ
   pub roomy : Roomy framed m frames plan input output
   pub good : judged_by (work_in framed) m frames plan input list ≡ done tt

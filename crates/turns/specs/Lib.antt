@@ -6,4 +6,5 @@ pub mod Lent
 pub mod Calls
 pub mod CallLaws
 pub mod CallCases
+pub mod AnswerCases
 pub mod Promise

@@ -1,14 +1,33 @@
 -- The planned order of a processor, job after job: the next job is the first of those that start later.
-use Rattle.std.specs.Prelude.{ℕ, suc, ◌+◌, ◌≤◌, ◌<◌, ◌≡◌, ◌≢◌, Bool, true, false, not, ◌&&◌, List, leb, eqb, get_or}
+use Rattle.std.specs.Prelude.{ℕ, zero, suc, Option, Some, None, slice_index_or, length, ◌*◌, ◌+◌, ◌≤◌, ◌<◌, ◌≡◌, ◌≢◌, Bool, true, false, not, ◌&&◌, List, [], ◌∷◌, map, leb, eqb}
 use Rattle.std.proofs.Math.Path.{sym, ap}
 use Rattle.std.proofs.Common.{subst, ◌∙◌}
 use Rattle.std.proofs.Math.Decide.{ℕ_discrete}
 use native.Mathlib.Omega.{arith}
 use borrow.Author.Tests.{leb-true, le-leb, eqb-true, eq-eqb, not-true}
-use Rattle.reply.specs.Tools.{pick}
+use Rattle.reply.specs.Tools.{pick, better}
 use Rattle.reply.specs.Tests.{split, clash, both, both_true, same_test}
 use Rattle.reply.specs.Pick.{Lowest, picked, pick_tests}
 use Rattle.plan.specs.Plan.{processor_at, start_at}
+
+-- ---- a job, or none
+
+-- what is picked, as the code keeps it
+abbrev pub job_in : ℕ → Option ℕ
+job_in zero = None
+job_in (suc j) = Some j
+
+-- and back: one more than the job, or 0 if there is none
+abbrev pub one_more : Option ℕ → ℕ
+one_more None = 0
+one_more (Some j) = suc j
+
+-- a plan has the two words of a job
+abbrev pub InPlan : List ℕ → Option ℕ → Type 0
+InPlan plan None = Unit {0}
+InPlan plan (Some j) = 2 * j + 2 ≤ length plan
+
+-- ---- the planned order
 
 -- job i is on processor m, and starts at `from` or later
 abbrev pub on_from : List ℕ → ℕ → ℕ → ℕ → Bool
@@ -18,6 +37,17 @@ on_from plan m from i = eqb (processor_at plan i) m && leb from (start_at plan i
 unfoldable pub next_from : List ℕ → ℕ → ℕ → ℕ → ℕ
 next_from plan jobs m from = pick (on_from plan m from) (start_at plan) jobs
 
+abbrev pub job_from : List ℕ → ℕ → ℕ → ℕ → Option ℕ
+job_from plan jobs m from = job_in (next_from plan jobs m from)
+
+-- the first job of each of four processors
+abbrev pub firsts : List ℕ → ℕ → List (Option ℕ)
+firsts plan jobs = map (λ m. job_from plan jobs m 0) (0 ∷ 1 ∷ 2 ∷ 3 ∷ [])
+
+-- of the best job so far and job i
+abbrev pub better_job : List ℕ → ℕ → ℕ → ℕ → Option ℕ → Option ℕ
+better_job plan m from i best = job_in (better (on_from plan m from) (start_at plan) i (one_more best))
+
 -- the job on processor m that starts first, of those that have not finished
 abbrev pub is_left : List ℕ → ℕ → (ℕ → Bool) → ℕ → Bool
 is_left plan m finished i = eqb (processor_at plan i) m && not (finished i)
@@ -26,11 +56,12 @@ unfoldable pub next_left : List ℕ → ℕ → ℕ → (ℕ → Bool) → ℕ
 next_left plan jobs m finished = pick (is_left plan m finished) (start_at plan) jobs
 
 -- of each processor its first job; of each job the next one on its processor
-pub record FirstIs (plan : List ℕ) (jobs : ℕ) (first : List ℕ) : Type 0 where
-  pub each : (m : ℕ) → m < 4 → get_or first m 0 ≡ next_from plan jobs m 0
+pub record FirstIs (plan : List ℕ) (jobs : ℕ) (first : List (Option ℕ)) : Type 0 where
+  pub each : (m : ℕ) → m < 4 → slice_index_or first m None ≡ job_from plan jobs m 0
+  pub four : length first ≡ 4
 
-pub record AfterIs (plan : List ℕ) (jobs : ℕ) (after : List ℕ) : Type 0 where
-  pub each : (j : ℕ) → j < jobs → get_or after j 0 ≡ next_from plan jobs (processor_at plan j) (start_at plan j + 1)
+pub record AfterIs (plan : List ℕ) (jobs : ℕ) (after : List (Option ℕ)) : Type 0 where
+  pub each : (j : ℕ) → j < jobs → slice_index_or after j None ≡ job_from plan jobs (processor_at plan j) (start_at plan j + 1)
 
 -- two jobs on one processor start at different times
 pub record StartsApart (plan : List ℕ) (jobs : ℕ) : Type 0 where

@@ -1,20 +1,22 @@
 // The turns of the frames, frame after frame.
 ghost use Rattle.turns.specs.Lent.{FrameNeeds, FrameTurns, RunNeeds, RunTurns};
 
+use crate::planned::Planned;
 use crate::turning;
+use crate::turning::Turned;
+use machine::State;
 use marks::Row;
 
-// After the turns of a frame: how many turns have passed in all, how many of the frame's worked, and whether the frame has ended; if not, how many of its jobs have finished.
-#[derive(Clone, Copy)]
+// After the turns of a frame: how many turns have passed in all, how many of the frame's worked, and, if the frame has not ended, how many of its jobs have finished.
+#[derive(Clone, Copy, Debug, PartialEq, Eq)]
 pub struct FrameTurned {
     pub passed: usize,
     pub working: usize,
-    pub ended: bool,
-    pub jobs: usize,
+    pub jobs: Option<usize>,
 }
 
 // After all turns: frames finished, jobs finished in the present frame, and the turns that worked.
-#[derive(Clone, Copy)]
+#[derive(Clone, Copy, Debug, PartialEq, Eq)]
 pub struct Turnings {
     pub frames: usize,
     pub jobs: usize,
@@ -23,120 +25,77 @@ pub struct Turnings {
 
 // The turns of one frame, from turn `from` on, until all its jobs have finished or no turn is left.
 fn frame(
-    program: &[u32; 1152],
-    counts: &[u32; 12],
-    kinds: &[u32; 32],
-    processes: &[u32; 128],
-    before: &[u64; 256],
-    first: &[usize; 4],
-    after: &[usize; 128],
-    jobs: usize,
+    planned: &Planned,
     turns: &[u32],
     from: usize,
     input: &[u32],
     output: &mut [u32],
-    variables: &mut [u32; 96],
-    words: &mut [u32; 192],
+    state: &mut State,
 ) -> FrameTurned
-    requires { FrameNeeds program.now counts.now kinds.now processes.now before.now first.now after.now jobs turns.now from input.now output.old variables.old words.old }
-    ensures { FrameTurns program.now counts.now kinds.now processes.now before.now first.now after.now jobs turns.now from input.now output.old variables.old words.old output.new variables.new words.new result }
+    requires { FrameNeeds planned.now turns.now from input.now output.old state.old.variables state.old.words }
+    ensures { FrameTurns planned.now turns.now from input.now output.old state.old.variables state.old.words output.new state.new.variables state.new.words result }
 {
-    let mut processors = turning::all_idle(first);
+    let mut processors = turning::all_idle(&planned.first);
     let mut finished = Row::empty();
-    let mut working = 0usize;
-    let mut t = from;
-    while t < turns.len() {
+    let mut working = 0;
+    // Kept: a range: `turns.iter().enumerate().skip(from)` is no plainer.
+    for t in from..turns.len() {
         let m = turns[t] as usize;
-        t += 1;
-        let turned = turning::turn(
-            program,
-            counts,
-            kinds,
-            processes,
-            before,
-            after,
-            jobs,
-            input,
-            output,
-            variables,
-            words,
-            processors[m],
-            finished,
-        );
-        working += turned.working;
-        if turned.ended {
-            return FrameTurned {
-                passed: t,
-                working,
-                ended: true,
-                jobs: 0,
-            };
+        let processor = &mut processors[m];
+        match turning::turn(planned, input, output, state, processor, &mut finished) {
+            Turned::Waits => {}
+            Turned::Works => working += 1,
+            Turned::Ends => {
+                return FrameTurned {
+                    passed: t + 1,
+                    working: working + 1,
+                    jobs: None,
+                };
+            }
         }
-        let processor = turned.processor;
-        processors[m] = processor;
-        finished = turned.finished;
     }
     FrameTurned {
-        passed: t,
+        passed: turns.len(),
         working,
-        ended: false,
-        jobs: finished.count() as usize,
+        jobs: Some(finished.count() as usize),
     }
 }
 
 // So many frames: each has its own part of the input, and its own part of the output. After the last one no turn works.
 pub fn run(
-    program: &[u32; 1152],
-    counts: &[u32; 12],
-    kinds: &[u32; 32],
-    processes: &[u32; 128],
-    before: &[u64; 256],
-    first: &[usize; 4],
-    after: &[usize; 128],
-    jobs: usize,
+    planned: &Planned,
     frames: usize,
     turns: &[u32],
     input: &[u32],
     output: &mut [u32],
-    variables: &mut [u32; 96],
-    words: &mut [u32; 192],
+    state: &mut State,
 ) -> Turnings
-    requires { RunNeeds program.now counts.now kinds.now processes.now before.now first.now after.now jobs frames turns.now input.now output.old variables.old words.old }
-    ensures { RunTurns program.now counts.now kinds.now processes.now before.now first.now after.now jobs frames turns.now input.now output.old variables.old words.old output.new variables.new words.new result }
+    requires { RunNeeds planned.now frames turns.now input.now output.old state.old.variables state.old.words }
+    ensures { RunTurns planned.now frames turns.now input.now output.old state.old.variables state.old.words output.new state.new.variables state.new.words result }
 {
-    let width = 2 * jobs;
-    let mut passed = 0usize;
-    let mut working = 0usize;
-    let mut f = 0usize;
-    while f < frames {
+    let width = 2 * planned.jobs;
+    let mut passed = 0;
+    let mut working = 0;
+    for f in 0..frames {
         let from = f * width;
         let to = from + width;
         let turned = frame(
-            program,
-            counts,
-            kinds,
-            processes,
-            before,
-            first,
-            after,
-            jobs,
+            planned,
             turns,
             passed,
             &input[from..to],
             &mut output[from..to],
-            variables,
-            words,
+            state,
         );
         passed = turned.passed;
         working += turned.working;
-        if !turned.ended {
+        if let Some(jobs) = turned.jobs {
             return Turnings {
                 frames: f,
-                jobs: turned.jobs,
+                jobs,
                 working,
             };
         }
-        f += 1;
     }
     Turnings {
         frames,

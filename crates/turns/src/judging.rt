@@ -1,26 +1,27 @@
 // The turns of a call: each names a processor.
-ghost use Rattle.std.specs.Prelude.{◌≡◌};
-ghost use Rattle.reply.specs.Result.{answer_of};
+ghost use Rattle.std.specs.Prelude.{◌≡◌, leb};
+ghost use Rattle.std.specs.List.{position};
+ghost use Rattle.reply.specs.Told.{judged};
 ghost use Rattle.promises.specs.Turns.{ok_turns};
 
-use reply::{Answer, Reply};
+use reply::{Refusal, Reply};
+
+// The first turn that names no processor.
+fn first_beyond(turns: &[u32], processors: u32) -> Option<usize>
+    ensures { result ≡ position (λ turn. leb processors turn) turns.now }
+{
+    turns.iter().position(|turn| processors <= *turn)
+}
 
 // The turns in order: reply 17 at the first that names no processor.
-pub fn judge(turns: &[u32], processors: u32) -> Answer
-    ensures { result ≡ answer_of (ok_turns processors turns.now) }
+pub fn judge(turns: &[u32], processors: u32) -> Result<(), Refusal>
+    ensures { result ≡ judged (ok_turns processors turns.now) }
 {
-    let mut t = 0usize;
-    while t < turns.len() {
-        if processors <= turns[t] {
-            return Answer {
-                reply: Reply::WrongTurn,
-                place: t,
-            };
-        }
-        t += 1;
-    }
-    Answer {
-        reply: Reply::Done,
-        place: 0,
+    match first_beyond(turns, processors) {
+        None => Ok(()),
+        Some(place) => Err(Refusal {
+            reply: Reply::WrongTurn,
+            place,
+        }),
     }
 }

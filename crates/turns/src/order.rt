@@ -1,82 +1,52 @@
 // The planned order of each processor: its first job, and after each job the next one on its processor.
-ghost use Rattle.std.specs.Prelude.{◌≡◌, ◌+◌, ◌*◌, ◌≤◌, ◌<◌, length, replicate};
-ghost use Rattle.reply.specs.Tools.{better};
-ghost use Rattle.plan.specs.Plan.{start_at};
-ghost use Rattle.turns.specs.Order.{on_from, next_from, FirstIs, AfterIs};
+ghost use Rattle.std.specs.Prelude.{◌≡◌, ◌*◌, ◌≤◌, length};
+ghost use Rattle.turns.specs.Order.{better_job, job_from, InPlan, firsts, AfterIs};
 
-fn wide(x: u32) -> usize
-    ensures { (result ≡ x) × (result < 4294967296) }
+// Of the best job so far and job i: the one that starts first, of those on processor m that start at `from` or later.
+fn better(plan: &[u32], m: u32, from: usize, i: usize, best: Option<usize>) -> Option<usize>
+    requires { InPlan plan.now (Some i) × InPlan plan.now best }
+    ensures { result ≡ better_job plan.now m from i best }
 {
-    x as usize
-}
-
-// Of the best job so far (one more, or 0 if there is none) and job i: the one that starts first, of those on processor m that start at `from` or later.
-fn better(plan: &[u32], m: u32, from: usize, i: usize, best: usize) -> usize
-    requires { (2 * i + 2 ≤ length plan.now) × (2 * best ≤ length plan.now) }
-    ensures { result ≡ better (on_from plan.now m from) (start_at plan.now) i best }
-{
-    if plan[2 * i] != m {
+    let start = plan[2 * i + 1];
+    if plan[2 * i] != m || (start as usize) < from {
         return best;
     }
-    let start = wide(plan[2 * i + 1]);
-    if start < from {
-        return best;
+    match best {
+        Some(k) if plan[2 * k + 1] <= start => best,
+        _ => Some(i),
     }
-    if best == 0 {
-        return i + 1;
-    }
-    let least = wide(plan[2 * (best - 1) + 1]);
-    if start < least {
-        return i + 1;
-    }
-    best
 }
 
-// One more than the job that starts first on processor m, of those that start at `from` or later; 0 if there is none.
-fn next_from(plan: &[u32], jobs: usize, m: u32, from: usize) -> usize
+// The job that starts first on processor m, of those that start at `from` or later.
+// Kept: a loop: tried `filter` and `min_by_key`, and the proof that of two jobs that tie it gives the lower did not close.
+fn next_from(plan: &[u32], jobs: usize, m: u32, from: usize) -> Option<usize>
     requires { 2 * jobs ≤ length plan.now }
-    ensures { result ≡ next_from plan.now jobs m from }
+    ensures { result ≡ job_from plan.now jobs m from }
 {
-    let mut best = 0usize;
-    let mut i = 0usize;
-    while i < jobs {
+    let mut best = None;
+    for i in 0..jobs {
         best = better(plan, m, from, i, best);
-        i += 1;
     }
     best
 }
 
 // The first job of each processor.
-pub fn first(plan: &[u32], jobs: usize) -> [usize; 4]
+pub fn first(plan: &[u32], jobs: usize) -> [Option<usize>; 4]
     requires { 2 * jobs ≤ length plan.now }
-    ensures { FirstIs plan.now jobs result }
+    ensures { result ≡ firsts plan.now jobs }
 {
-    [
-        next_from(plan, jobs, 0, 0),
-        next_from(plan, jobs, 1, 0),
-        next_from(plan, jobs, 2, 0),
-        next_from(plan, jobs, 3, 0),
-    ]
-}
-
-fn none() -> [usize; 128]
-    ensures { result ≡ replicate 128 0 }
-{
-    [0; 128]
+    [0, 1, 2, 3].map(|m| next_from(plan, jobs, m, 0))
 }
 
 // After each job the next one on its processor.
-pub fn after(plan: &[u32], jobs: usize) -> [usize; 128]
+pub fn after(plan: &[u32], jobs: usize) -> [Option<usize>; 128]
     requires { (2 * jobs ≤ length plan.now) × (jobs ≤ 128) }
     ensures { AfterIs plan.now jobs result }
 {
-    let mut next = none();
-    let mut j = 0usize;
-    while j < jobs {
-        let start = wide(plan[2 * j + 1]);
-        let then = next_from(plan, jobs, plan[2 * j], start + 1);
-        next[j] = then;
-        j += 1;
+    let mut next = [None; 128];
+    for j in 0..jobs {
+        let start = plan[2 * j + 1] as usize;
+        next[j] = next_from(plan, jobs, plan[2 * j], start + 1);
     }
     next
 }

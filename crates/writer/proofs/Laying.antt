@@ -1,21 +1,24 @@
 -- Numbers laid one after another: one number, what follows it, the turns of a loop.
-use Prim.Native.Nat.{ℕ, zero, suc, ◌+◌, ◌≤◌, ◌<◌, min}
+use Prim.Native.Nat.{ℕ, zero, suc, ◌+◌, ◌*◌, ◌≤◌, ◌<◌, min}
 use mathlib.Core.Path.{◌≡◌, refl, sym, ap, ◌∙◌}
 use mathlib.Core.List.{List, [], ◌∷◌, ◌++◌, append_assoc, append-nil}
 use native.Mathlib.Decide.{dec_lt}
 use native.Mathlib.Nat.{add-zero}
 use native.Mathlib.Numerals.{add-one}
 use native.Mathlib.Omega.{arith}
-use lib.ListN.{length, get_or, take, drop, set, length-append}
+use lib.ListN.{length, get_or, take, drop, length-append}
 use lib.Seq.{sets, sets-eq, take_at, take_all, take-suc, take-append-le, get_or-drop}
 use Rattle.number.specs.Encode.{encode}
-use Rattle.number.specs.Groups.{groups_last, encode_most}
+use Rattle.number.specs.Groups.{encode_most}
 use Rattle.number.specs.PutLaws.{sets_append}
 use Rattle.network.specs.Lists.{each_of, table}
 use Rattle.network.specs.ListLaws.{take_lesser, each_append, each_one, each_more, length_table}
 use Rattle.network.specs.Net.{within, process_fields, pair_fields, channel_fields, four_fields, program_at}
 use Rattle.network.specs.Write.{program_fields, fields, encode_network}
 use Rattle.writer.specs.Laid.{Laid, Encoded}
+use Rattle.network.specs.declared.Process.{Process}
+use Rattle.network.specs.declared.Pair.{Pair}
+use Rattle.network.specs.declared.Channel.{Channel}
 use Rattle.network.specs.declared.Four.{Four}
 use Rattle.network.specs.declared.Network.{Network}
 
@@ -28,10 +31,6 @@ none buffer at most e = rw e (record { stands = refl; ends = sym (add-zero at); 
 module _ (before : List ℕ) (at n : ℕ) where
   pub one : {next : ℕ} {last : List ℕ} → next ≡ at + length (encode n) → last ≡ sets before at (encode n) → Laid before at (n ∷ []) 5 last next
   one e f = record { stands = rw (each_one encode n) f; ends = rw (each_one encode n) e; near = omega (arith, encode_most n) }
-
-  pub one_byte : n < 128 → Laid before at (n ∷ []) 5 (set before at n) (at + 1)
-  unfolding encode
-  one_byte h = let e : encode n ≡ n ∷ [] = groups_last 4 n h in one (rw e) (rw e)
 
 module _ {before : List ℕ} {from : ℕ} {xs : List ℕ} {m : ℕ} {between : List ℕ} {at : ℕ} (a : Laid before from xs m between at) where
   -- ys after xs
@@ -52,6 +51,9 @@ module _ {before : List ℕ} {from : ℕ} {xs : List ℕ} {m : ℕ} {between : L
 -- ---- a loop over the elements of an array
 
 module _ {A : Type 0} where
+  pub take_more : (d : A) (l : List A) (i : ℕ) → i < length l → take (i + 1) l ≡ take i l ++ (get_or l i d ∷ [])
+  take_more d l i h = rw (add-one i) (take-suc l i d h)
+
   pub take_table : (n : ℕ) (f : ℕ → A) (i : ℕ) → i ≤ n → take i (table n f) ≡ table i f
   unfolding table
   take_table zero f i h = let z : i ≡ 0 = omega arith in rw z
@@ -103,19 +105,25 @@ programs_table counts g i = rw (table_more g i, programs_more counts (table i g)
 
 -- ---- the whole
 
-module _ (network : Network) {b₀ b₁ b₂ b₃ b₄ b₅ b₆ b₇ b₈ : List ℕ} {p₁ p₂ p₃ p₄ p₅ p₆ p₇ p₈ : ℕ} where
+module _ (network : Network) where
+  pub programs_are : (n : ℕ) → n ≡ min network.process_count 12 → table n (λ p. program_at network.actions (get_or network.action_counts p 0) p) ≡ (within network).programs
+  unfolding within
+  programs_are n e = table_lesser (λ p. program_at network.actions (get_or network.action_counts p 0) p) network.process_count n 12 e
+
   -- the parts of the file in order
-  pub parts : Laid b₀ 0 (1 ∷ []) 5 b₁ p₁
-      → Laid b₁ p₁ (network.process_count ∷ []) 5 b₂ p₂
-      → Laid b₂ p₂ (each_of process_fields (take network.process_count network.processes)) 240 b₃ p₃
+  pub parts : {ps : List Process} {qs : List Pair} {cs : List Channel} {b₀ b₂ b₃ b₄ b₅ b₆ b₇ b₈ : List ℕ} {p₂ p₃ p₄ p₅ p₆ p₇ p₈ : ℕ}
+      → ps ≡ (within network).processes → qs ≡ (within network).pairs → cs ≡ (within network).channels
+      → length ps ≡ min network.process_count 12 → length qs ≡ min network.pair_count 66 → length cs ≡ min network.channel_count 16
+      → Laid b₀ 0 (1 ∷ network.process_count ∷ []) 10 b₂ p₂
+      → Laid b₂ p₂ (each_of process_fields ps) (20 * length ps) b₃ p₃
       → Laid b₃ p₃ (network.pair_count ∷ []) 5 b₄ p₄
-      → Laid b₄ p₄ (each_of pair_fields (take network.pair_count network.pairs)) 660 b₅ p₅
+      → Laid b₄ p₄ (each_of pair_fields qs) (10 * length qs) b₅ p₅
       → Laid b₅ p₅ (network.channel_count ∷ []) 5 b₆ p₆
-      → Laid b₆ p₆ (each_of channel_fields (take network.channel_count network.channels)) 320 b₇ p₇
-      → Laid b₇ p₇ (program_fields network.action_counts (take network.process_count (table 12 (λ p. program_at network.actions (get_or network.action_counts p 0) p)))) 5820 b₈ p₈
+      → Laid b₆ p₆ (each_of channel_fields cs) (20 * length cs) b₇ p₇
+      → Laid b₇ p₇ (program_fields network.action_counts (within network).programs) 5820 b₈ p₈
       → Laid b₀ 0 (fields network) 7060 b₈ p₈
-  unfolding fields within
-  parts a b c d e f g h = join a (join b (join c (join d (join e (join f (join g h))))))
+  unfolding fields
+  parts p-is q-is c-is few₁ few₂ few₃ a c d e f g h = told (join a (join c (join d (join e (join f (join g h)))))) (rw (p-is, q-is, c-is)) (omega arith)
 
 pub whole : (network : Network) (buffer last : List ℕ) (size : ℕ) → length buffer ≡ 7060 → Laid buffer 0 (fields network) 7060 last size → Encoded network size last
 unfolding encode_network

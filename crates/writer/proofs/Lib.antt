@@ -1,6 +1,5 @@
 mod Laying
 mod EntryPoint
-mod Judging
+mod Passing
 mod Ends
-mod Actions
 mod Whole

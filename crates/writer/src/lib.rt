@@ -1,41 +1,63 @@
 // The writer of network files: the bytes of a network, if the reader would accept them and there is room for them.
 #![tactic(auto)]
 
-mod programs;
-mod records;
+mod judging;
 mod writing;
 
-ghost use Rattle.std.specs.Prelude.{◌≡◌, ◌≤◌, length, replicate};
-ghost use Rattle.std.proofs.lemmas.List.Edits.{sets};
-ghost use Rattle.reply.specs.Result.{answer_of};
+ghost use Rattle.std.specs.Prelude.{◌≡◌, length};
+ghost use Rattle.reply.specs.Told.{told};
 ghost use Rattle.network.specs.Read.{load};
-ghost use Rattle.network.specs.Write.{given, told_of, filled_by, wrote, wrote_to};
+ghost use Rattle.network.specs.Write.{given, writing, told_of, filled_by, wrote, wrote_to};
+ghost use Rattle.writer.specs.Laid.{written_of};
 
 use network::{Network, Written};
-use reply::{Answer, Reply};
+use reply::{Answer, Refusal, calls};
 
-fn judge(file: &[u8]) -> Answer
-    ensures { result ≡ answer_of (load file.now) }
+// What the reader says of a file.
+fn judge(file: &[u8]) -> Result<(), Refusal>
+    ensures { result ≡ told (λ net. tt) (load file.now) }
 {
-    let loaded = reader::read(file);
-    loaded.answer
+    reader::read(file).answer.ok()
 }
 
-fn no_bytes() -> [u8; 7060]
-    ensures { result ≡ replicate 7060 0 }
+// Fills the front of a buffer with the bytes of a file, if there is room, and gives how many they are.
+#[tactic(auto, unfolding(network::specs::Write::given, network::specs::Write::filled_by))]
+fn fill(file: &[u8], out: &mut [u8]) -> Result<usize, Refusal>
+    ensures value { result ≡ told length (given file.now (length out.old)) }
+    ensures out_after { out.new ≡ filled_by out.old (given file.now (length out.old)) }
 {
-    [0; 7060]
+    calls::room(file.len(), out.len())?;
+    out[..file.len()].copy_from_slice(file);
+    Ok(file.len())
 }
 
-// Copies bytes to the front of a buffer that has room for them.
-fn copy(bytes: &[u8], out: &mut [u8])
-    requires { length bytes.now ≤ length out.old }
-    ensures { out.new ≡ sets out.old 0 bytes.now }
+// Fills a buffer with the file of a network. Only a network that is not seen to be good is read.
+fn put(network: &Network, out: &mut [u8]) -> Result<usize, Refusal>
+    ensures value { result ≡ told length (writing network.now (length out.old)) }
+    ensures out_after { out.new ≡ wrote_to network.now out.old }
 {
-    let mut i = 0usize;
-    while i < bytes.len() {
-        out[i] = bytes[i];
-        i += 1;
+    let mut bytes = [0; 7060];
+    let size = writing::encode_network(network, &mut bytes);
+    let file = &bytes[..size];
+    if !judging::is_good(network) {
+        judge(file)?;
+    }
+    fill(file, out)
+}
+
+// What is returned of it.
+fn written(outcome: Result<usize, Refusal>) -> Written
+    ensures { result ≡ written_of outcome }
+{
+    match outcome {
+        Ok(length) => Written {
+            answer: Answer::done(),
+            length,
+        },
+        Err(refusal) => Written {
+            answer: Answer::from(refusal),
+            length: 0,
+        },
     }
 }
 
@@ -44,73 +66,13 @@ pub fn give(file: &[u8], out: &mut [u8]) -> Written
     ensures value { result ≡ told_of (given file.now (length out.old)) }
     ensures out_after { out.new ≡ filled_by out.old (given file.now (length out.old)) }
 {
-    let size = file.len();
-    if out.len() < size {
-        return Written {
-            answer: Answer {
-                reply: Reply::ShortBuffer,
-                place: 0,
-            },
-            length: 0,
-        };
-    }
-    copy(file, out);
-    Written {
-        answer: Answer {
-            reply: Reply::Done,
-            place: 0,
-        },
-        length: size,
-    }
+    written(fill(file, out))
 }
 
-// Has the reader judge the bytes of a network, and gives them if it accepts them.
-fn write_judged(network: Network, out: &mut [u8]) -> Written
-    ensures value { result ≡ wrote network out.old }
-    ensures out_after { out.new ≡ wrote_to network out.old }
-{
-    let mut bytes = no_bytes();
-    let size = writing::encode_network(network, &mut bytes);
-    let answer = judge(&bytes[..size]);
-    let reply = answer.reply;
-    if reply::number(reply) != 0 {
-        return Written { answer, length: 0 };
-    }
-    give(&bytes[..size], out)
-}
-
-// Writes the file of a network, if the reader would accept it and there is room; else nothing. Only a network that is not seen to be good is read.
+// Writes the file of a network, if the reader would accept it and there is room; else nothing.
 pub fn write(network: Network, out: &mut [u8]) -> Written
     ensures value { result ≡ wrote network out.old }
     ensures out_after { out.new ≡ wrote_to network out.old }
 {
-    let mut bytes = no_bytes();
-    let processes = network.processes;
-    let pairs = network.pairs;
-    let channels = network.channels;
-    let action_counts = network.action_counts;
-    let from = records::put_records(
-        &mut bytes,
-        network.process_count,
-        processes,
-        network.pair_count,
-        pairs,
-        network.channel_count,
-        channels,
-    );
-    if from != 0 {
-        let size = programs::put_programs(
-            &mut bytes,
-            from,
-            channels,
-            network.channel_count as usize,
-            network.process_count as usize,
-            action_counts,
-            &network.actions,
-        );
-        if size != 0 {
-            return give(&bytes[..size], out);
-        }
-    }
-    write_judged(network, out)
+    written(put(&network, out))
 }

@@ -1,12 +1,17 @@
 -- What the code of the run is lent, and what it leaves: the tables of a network's work, and variables, words and output after jobs.
-use Rattle.std.specs.Prelude.{ℕ, ◌*◌, ◌≤◌, ◌<◌, ◌≡◌, List, length, get_or}
+use Rattle.std.specs.Prelude.{ℕ, ◌*◌, ◌≤◌, ◌<◌, ◌≡◌, List, map, length, get_or}
 use Rattle.std.proofs.lemmas.List.Edits.{sets}
 use Rattle.graph.specs.Work.{Work, job_count_of, process_of}
+use Rattle.graph.specs.declared.Job.{Job}
 use Rattle.machine.specs.Ledger.{ShortPrograms}
 use Rattle.machine.specs.Words.{state_by, SoundWords}
 use Rattle.machine.specs.Acting.{KindsOf, Capacities, Room}
 use Rattle.machine.specs.Jobs.{ProgramIs, Runnable}
 use Rattle.zero_delay.specs.ZeroDelay.{process_in, jobs_done}
+
+-- the process of each job
+abbrev pub processes_in : List Job → List ℕ
+processes_in jobs = map (λ (x : Job). x.process) jobs
 
 -- the tables are those of a work: the actions as numbers, how many each process has, the kinds of the channels, and the process of each job
 pub record TablesOf (w : Work) (program counts kinds processes : List ℕ) (jobs : ℕ) : Type 0 where

@@ -5,4 +5,5 @@ pub mod RunLaws
 pub mod Lent
 pub mod Calls
 pub mod CallLaws
+pub mod CallCases
 pub mod Promise

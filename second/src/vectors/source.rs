@@ -100,7 +100,7 @@ pub fn bytes(bytes: &[u8]) -> String {
 
 /// A text.
 pub fn text(words: &str) -> String {
-    format!("b\"{words}\"")
+    format!("\"{words}\"")
 }
 
 /// Declares a list of words under a name, on one line if that is short enough.

@@ -1,13 +1,14 @@
--- `frame` meets its contract: a network that was read has its frame, and a refused file has none.
-use Rattle.std.proofs.Common.{sym, ◌∙◌}
-use Rattle.graph.specs.FileLaws.{read_accepted, frame_done, frame_refused}
+-- `frame` meets its contract.
+use Rattle.std.proofs.Common.{◌∙◌}
+use Rattle.graph.specs.FileLaws.{read_accepted, frame_done}
+use Rattle.graph.proofs.Answered.{ok_zero, no_frame}
 use Rattle.graph.proofs.frame.Goals as goal
 
 pub frame_work-requires : goal.frame_work-requires
-frame_work-requires c = read_accepted _ _ c.read-loaded.ensures (sym c.number.ensures ∙ c.if-number-eq0.true)
+frame_work-requires c = read_accepted _ _ c.read.ensures (ok_zero _ c.in-Ok.ensures)
 
-pub returns-then-number-eq0 : goal.returns-then-number-eq0
-returns-then-number-eq0 c = c.frame_work.ensures ∙ frame_done _ _ c.read-loaded.ensures (sym c.number.ensures ∙ c.if-number-eq0.true)
+pub returns-in-Ok : goal.returns-in-Ok
+returns-in-Ok c = c.frame_work.ensures ∙ frame_done _ _ c.read.ensures (ok_zero _ c.in-Ok.ensures)
 
-pub returns : goal.returns
-returns c = rw (c.no_rows-before.ensures, c.no_jobs-jobs.ensures) (frame_refused _ _ c.read-loaded.ensures (λ z. c.if-number-eq0.false (c.number.ensures ∙ z)))
+pub returns-in-Err : goal.returns-in-Err
+returns-in-Err c = no_frame _ _ _ _ _ c.read.ensures c.in-Err.ensures c.from.ensures c.empty-before.ensures

@@ -1,13 +1,14 @@
--- `graph` meets its contract: a network that was read has its graph, and a refused file has none.
-use Rattle.std.proofs.Common.{sym, ◌∙◌}
-use Rattle.graph.specs.FileLaws.{read_accepted, graph_done, graph_refused}
+-- `graph` meets its contract.
+use Rattle.std.proofs.Common.{◌∙◌}
+use Rattle.graph.specs.FileLaws.{read_accepted, graph_done}
+use Rattle.graph.proofs.Answered.{ok_zero, no_graph}
 use Rattle.graph.proofs.graph.Goals as goal
 
-pub returns-then-number-ne0 : goal.returns-then-number-ne0
-returns-then-number-ne0 c = rw (c.no_rows-rows.ensures, c.no_jobs-jobs.ensures) (graph_refused _ _ c.read-loaded.ensures (λ z. c.if-number-ne0.true (c.number.ensures ∙ z)))
-
 pub graph_work-requires : goal.graph_work-requires
-graph_work-requires c = read_accepted _ _ c.read-loaded.ensures (sym c.number.ensures ∙ c.if-number-ne0.false)
+graph_work-requires c = read_accepted _ _ c.read-loaded.ensures (ok_zero _ c.in-Ok.ensures)
 
-pub returns : goal.returns
-returns c = c.graph_work.ensures ∙ graph_done _ _ c.read-loaded.ensures (sym c.number.ensures ∙ c.if-number-ne0.false)
+pub returns-in-Ok : goal.returns-in-Ok
+returns-in-Ok c = c.graph_work.ensures ∙ graph_done _ _ c.read-loaded.ensures (ok_zero _ c.in-Ok.ensures)
+
+pub returns-in-Err : goal.returns-in-Err
+returns-in-Err c = no_graph _ _ _ _ _ c.read-loaded.ensures c.in-Err.ensures c.from.ensures c.empty-rows.ensures

@@ -1,20 +1,44 @@
 -- `graph_work` meets its contract: each part by the laws of a network that was read.
-use Rattle.std.proofs.Common.{rules}
-use Rattle.graph.specs.EntryLaws.{fits, told_jobs, after_later, whole_graph}
+use Rattle.std.proofs.Common.{sym, arith, length-take-le}
+use Rattle.graph.specs.EntryLaws.{few, after_later, whole_graph}
+use Rattle.graph.proofs.Slices.{slice_size, jobs_told, told_front, after_front, later_front, reduced_front}
 use Rattle.graph.proofs.graph_work.Goals as goal
 
-pub sequence-table-requires : goal.sequence-table-requires
-sequence-table-requires c = fits c.requires _ c.ahead_of-ahead.ensures c.frame_of-length.ensures
+pub slice_bounds-jobs-end : goal.slice_bounds-jobs-end
+slice_bounds-jobs-end c = omega (arith, (jobs_told c.requires c.in_sequence-frame.ensures).few_jobs)
+
+pub slice_bounds-after_rows-end : goal.slice_bounds-after_rows-end
+slice_bounds-after_rows-end c = sym (length-take-le _ _ (omega (arith, (jobs_told c.requires c.in_sequence-frame.ensures).few_jobs)))
+
+pub slice_bounds-ahead-end : goal.slice_bounds-ahead-end
+slice_bounds-ahead-end c = omega (arith, few c.requires, slice_size c.requires c.processes-n.ensures.value)
+
+pub slice_bounds-after_rows-end-2 : goal.slice_bounds-after_rows-end-2
+slice_bounds-after_rows-end-2 c = sym (length-take-le _ _ (omega (arith, few c.requires, slice_size c.requires c.processes-n.ensures.value)))
 
 pub after_rows-after-requires : goal.after_rows-after-requires
-after_rows-after-requires c = told_jobs c.requires _ c.ahead_of-ahead.ensures c.frame_of-length.ensures c.sequence-table.ensures
+after_rows-after-requires c = let told = c.in_sequence-frame.ensures in
+    told_front c.requires told _ (slice_size c.requires c.processes-n.ensures.value) (omega (arith, few c.requires)) (omega (arith, (jobs_told c.requires told).few_jobs))
 
-pub reduce-reduced-requires : goal.reduce-reduced-requires
-reduce-reduced-requires c = after_later c.requires _ c.ahead_of-ahead.ensures c.frame_of-length.ensures c.sequence-table.ensures c.after_rows-after.ensures
+pub slice_bounds-after-end : goal.slice_bounds-after-end
+slice_bounds-after-end c = omega (arith, (jobs_told c.requires c.in_sequence-frame.ensures).few_jobs)
+
+pub slice_bounds-reduce-end : goal.slice_bounds-reduce-end
+slice_bounds-reduce-end c = sym (length-take-le _ _ (omega (arith, (jobs_told c.requires c.in_sequence-frame.ensures).few_jobs)))
+
+pub reduce-edges-requires : goal.reduce-edges-requires
+reduce-edges-requires c = let told = c.in_sequence-frame.ensures in
+    let few_jobs = (jobs_told c.requires told).few_jobs in
+    let later = after_later c.requires _ told.ahead told.frame told.table
+    (after_front c.requires told _ (slice_size c.requires c.processes-n.ensures.value) (omega (arith, few c.requires)) (omega (arith, few_jobs)) _ c.after_rows-after.ensures) in
+    later_front _ _ (omega (arith, few_jobs)) later.0 later.1
 
 pub overflow_cast-result : goal.overflow_cast-result
-overflow_cast-result c = let few = (told_jobs c.requires _ c.ahead_of-ahead.ensures c.frame_of-length.ensures c.sequence-table.ensures).few_jobs in
-    search rules
+overflow_cast-result c = omega (arith, (jobs_told c.requires c.in_sequence-frame.ensures).few_jobs)
 
 pub returns : goal.returns
-returns c = whole_graph c.requires _ c.ahead_of-ahead.ensures c.frame_of-length.ensures c.sequence-table.ensures c.after_rows-after.ensures c.reduce-reduced.ensures
+returns c = let told = c.in_sequence-frame.ensures in
+    let few_jobs = (jobs_told c.requires told).few_jobs in
+    rw c.done.ensures (whole_graph c.requires _ told.ahead told.frame told.table
+    (after_front c.requires told _ (slice_size c.requires c.processes-n.ensures.value) (omega (arith, few c.requires)) (omega (arith, few_jobs)) _ c.after_rows-after.ensures)
+    (reduced_front _ _ (omega (arith, few_jobs)) _ _ c.reduce-edges.ensures))

@@ -1,32 +1,18 @@
--- `list` meets its contract: the planner's refusal, or the text, where there is room for it.
-use Rattle.std.proofs.Common.{sym, ◌∙◌}
-use Rattle.listing.specs.CallLaws.{list_refused, list_done, list_given}
-use Rattle.listing.proofs.Lining.{words_size, front_is, front_size, front_fits}
+-- `list` meets its contract: the refusal, or the text, where there is room for it.
+use Rattle.listing.specs.CallLaws.{call_refused, call_given, text_fits}
 use Rattle.listing.proofs.list.Goals as goal
 
-pub returns-then-number-ne0 : goal.returns-then-number-ne0
-returns-then-number-ne0 c =
-    let told = list_refused _ _ (words_size c.no_words-words.ensures) c.plan-answer.ensures.result (λ z. c.if-number-ne0.true (c.number.ensures ∙ z)) _ in
-    record { result = told.0; filled = told.1 }
+pub as_bytes-requires : goal.as_bytes-requires
+as_bytes-requires c = text_fits _ c.in-Ok.ensures
 
-pub put_listing-size-requires : goal.put_listing-size-requires
-put_listing-size-requires c = let listing = list_done _ _ (words_size c.no_words-words.ensures) c.plan-answer.ensures.result
-    (sym c.number.ensures ∙ c.if-number-ne0.false) c.plan-answer.ensures.filled c.graph-graph.ensures in
-    (listing.few, listing.short)
+pub returns-in-Ok-clause-result : goal.returns-in-Ok-clause-result
+returns-in-Ok-clause-result c = (call_given _ c.in-Ok.ensures c.as_bytes.ensures c.args.out.now c.give-length.ensures.value c.give-length.ensures.out_after).0
 
-pub slice_bounds-text-end : goal.slice_bounds-text-end
-slice_bounds-text-end c = let listing = list_done _ _ (words_size c.no_words-words.ensures) c.plan-answer.ensures.result
-    (sym c.number.ensures ∙ c.if-number-ne0.false) c.plan-answer.ensures.filled c.graph-graph.ensures in
-    front_fits c.no_text-text.ensures c.put_listing-size.ensures listing.short
+pub returns-in-Ok-clause-filled : goal.returns-in-Ok-clause-filled
+returns-in-Ok-clause-filled c = (call_given _ c.in-Ok.ensures c.as_bytes.ensures c.args.out.now c.give-length.ensures.value c.give-length.ensures.out_after).1
 
-pub slice_bounds-give-end : goal.slice_bounds-give-end
-slice_bounds-give-end c = let listing = list_done _ _ (words_size c.no_words-words.ensures) c.plan-answer.ensures.result
-    (sym c.number.ensures ∙ c.if-number-ne0.false) c.plan-answer.ensures.filled c.graph-graph.ensures in
-    front_size c.no_text-text.ensures c.put_listing-size.ensures listing.short
+pub returns-in-Err-clause-result : goal.returns-in-Err-clause-result
+returns-in-Err-clause-result c = rw c.from.ensures (call_refused _ c.in-Err.ensures c.args.out.now).0
 
-pub returns : goal.returns
-returns c =
-    let listing = list_done _ _ (words_size c.no_words-words.ensures) c.plan-answer.ensures.result
-    (sym c.number.ensures ∙ c.if-number-ne0.false) c.plan-answer.ensures.filled c.graph-graph.ensures in
-    let told = list_given _ listing _ (front_is c.no_text-text.ensures c.put_listing-size.ensures listing.short) c.give-given.ensures.value c.give-given.ensures.out_after in
-    record { result = told.0; filled = told.1 }
+pub returns-in-Err-clause-filled : goal.returns-in-Err-clause-filled
+returns-in-Err-clause-filled c = (call_refused _ c.in-Err.ensures c.args.out.now).1

@@ -1,10 +1,22 @@
--- `page` meets its contract: the listing, or the line of the refusal.
-use Rattle.std.proofs.Common.{rules, sym, ◌∙◌}
-use Rattle.listing.specs.CallLaws.{page_listed, page_refused}
+-- The page is copied to the front of the buffer.
+use Rattle.std.proofs.Common.{◌≡◌, arith, ap, length, refl}
+use Rattle.listing.specs.Listing.{page_of}
+use Rattle.listing.specs.CallLaws.{page_most, page_fits_text, page_front}
+use Rattle.listing.proofs.Printing.{put_there}
 use Rattle.listing.proofs.page.Goals as goal
 
-pub returns-then-number-eq0 : goal.returns-then-number-eq0
-returns-then-number-eq0 c = page_listed _ _ (search rules) c.list-listed.ensures.result c.list-listed.ensures.filled (sym c.number-number.ensures ∙ c.if-number-eq0.true)
+pub as_bytes-bytes-requires : goal.as_bytes-bytes-requires
+as_bytes-bytes-requires c = page_fits_text _ c.page_text-text.ensures
+
+pub slice_bounds-copy_from_slice-end : goal.slice_bounds-copy_from_slice-end
+slice_bounds-copy_from_slice-end c =
+    let whole : c.as_bytes-bytes.result.now ≡ page_of c.args.file.now = page_front _ c.page_text-text.ensures c.as_bytes-bytes.ensures in
+    omega (arith, ap length whole, page_most c.args.file.now)
 
 pub returns : goal.returns
-returns c = page_refused _ _ (search rules) c.list-listed.ensures.result c.list-listed.ensures.filled _ c.number-number.ensures c.if-number-eq0.false c.put_refusal.ensures
+returns c =
+    let whole : c.as_bytes-bytes.result.now ≡ page_of c.args.file.now = page_front _ c.page_text-text.ensures c.as_bytes-bytes.ensures in
+    rw (← whole) (record {
+      stands = put_there _ _ _ 0 _ c.copy_from_slice.ensures.after refl (omega (arith, ap length whole, page_most c.args.file.now));
+      ends = omega arith;
+    })

@@ -1,15 +1,13 @@
--- `number::read_fifth` meets its contract: each branch knows the byte, and so the rest of the number.
-use Rattle.number.proofs.Reading.{plus_is, rest_ends, rest_zero, fifth_last, fifth_over}
+-- `number::read_fifth` meets its contract: the rest of the number is its fifth group.
+use Rattle.std.proofs.Common.{rules}
+use Rattle.number.proofs.Reading.{rest_fifth}
 use Rattle.number.proofs.read_fifth.Goals as goal
 
-pub returns-then-file-at : goal.returns-then-file-at
-returns-then-file-at c = plus_is _ _ (rest_ends _ _ _ 0 c.if-file-at.true)
-
-pub returns-then-b-eq0 : goal.returns-then-b-eq0
-returns-then-b-eq0 c = plus_is _ _ (rest_zero _ _ _ _ c.wide-b.ensures c.if-file-at.false 0 c.if-b-eq0.true)
+pub returns-in_err-b : goal.returns-in_err-b
+returns-in_err-b c = rw rest_fifth (search rules)
 
 pub returns-then-b-le15 : goal.returns-then-b-le15
-returns-then-b-le15 c = plus_is _ _ (fifth_last _ _ _ _ c.wide-b.ensures c.if-file-at.false c.if-b-eq0.false c.if-b-le15.true)
+returns-then-b-le15 c = rw rest_fifth (search rules)
 
 pub returns : goal.returns
-returns c = plus_is _ _ (fifth_over _ _ _ _ c.wide-b.ensures c.if-file-at.false c.if-b-eq0.false c.if-b-le15.false)
+returns c = rw rest_fifth (search rules)

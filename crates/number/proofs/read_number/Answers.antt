@@ -1,14 +1,13 @@
--- `number::read_number` meets its contract: each branch knows the first byte.
-use Rattle.std.proofs.Common.{ap, ◌∙◌}
-use Rattle.number.specs.Told.{number_of}
-use Rattle.number.proofs.Reading.{number_ends, number_last, number_more}
+-- `number::read_number` meets its contract: the number is its first group, or that and the rest.
+use Rattle.std.proofs.Common.{rules}
+use Rattle.number.proofs.Reading.{number_first}
 use Rattle.number.proofs.read_number.Goals as goal
 
-pub returns-then-file-at : goal.returns-then-file-at
-returns-then-file-at c = number_ends _ _ c.if-file-at.true
+pub returns-in-Some : goal.returns-in-Some
+returns-in-Some c = rw number_first (search rules)
 
-pub returns-then-b-lt128 : goal.returns-then-b-lt128
-returns-then-b-lt128 c = number_last _ _ _ c.wide-b.ensures c.if-file-at.false c.if-b-lt128.true
+pub returns-in-Some-2 : goal.returns-in-Some-2
+returns-in-Some-2 c = rw number_first (search rules)
 
-pub returns : goal.returns
-returns c = c.read_rest.ensures ∙ ap number_of (number_more _ _ _ c.wide-b.ensures c.if-file-at.false c.if-b-lt128.false)
+pub returns-in-None : goal.returns-in-None
+returns-in-None c = rw number_first (search rules)

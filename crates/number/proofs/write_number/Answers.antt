@@ -1,24 +1,25 @@
 -- `number::write_number` meets its contract: it writes where the number's width leaves room, and nothing elsewhere.
-use Rattle.std.proofs.Common.{arith}
-use Rattle.number.specs.Encode.{encode}
+use Rattle.std.proofs.Common.{rules}
 use Rattle.number.specs.Groups.{encode_some}
-use Rattle.number.proofs.Writing.{refuses, fills}
+use Rattle.number.specs.Put.{put_at, after}
+use Rattle.number.proofs.Writing.{fits_room, has_room}
 use Rattle.number.proofs.write_number.Goals as goal
 
-pub returns-then-out-at : goal.returns-then-out-at
-returns-then-out-at c =
-    let a = c.args in
-    let told = refuses a.out.now a.at (encode a.n) (omega (arith, encode_some a.n)) in
-    record { value = told.0; out_after = told.1 }
+pub returns-in_err-room-clause-value : goal.returns-in_err-room-clause-value
+unfolding put_at
+returns-in_err-room-clause-value c = let h = encode_some c.args.n in rw fits_room (search rules)
 
-pub returns-then-out-at-2 : goal.returns-then-out-at-2
-returns-then-out-at-2 c =
-    let a = c.args in
-    let told = refuses a.out.now a.at (encode a.n) (omega arith) in
-    record { value = told.0; out_after = told.1 }
+pub returns-in_err-room-clause-out_after : goal.returns-in_err-room-clause-out_after
+unfolding after
+returns-in_err-room-clause-out_after c = let h = encode_some c.args.n in rw fits_room (search rules)
 
-pub returns : goal.returns
-returns c =
-    let a = c.args in
-    let told = fills a.out.now a.at (encode a.n) (omega arith) c.put_groups-next.ensures.value c.put_groups-next.ensures.out_after in
-    record { value = told.0; out_after = told.1 }
+pub put_groups-requires : goal.put_groups-requires
+put_groups-requires c = has_room _ _ _ (encode_some c.args.n) c.width.ensures c.saturating_sub.ensures c.in_ok-room.ensures
+
+pub returns-clause-value : goal.returns-clause-value
+unfolding put_at
+returns-clause-value c = let h = encode_some c.args.n in rw fits_room (search rules)
+
+pub returns-clause-out_after : goal.returns-clause-out_after
+unfolding after
+returns-clause-out_after c = let h = encode_some c.args.n in rw fits_room (search rules)

@@ -1,84 +1,75 @@
 -- `run_framed` meets its contract: 10 for short memory, the fault of plan or durations, or the times at the front of the buffer.
-use Rattle.std.proofs.Common.{ap, arith, sym, ◌∙◌}
-use Rattle.reply.specs.Result.{answer_of}
+use Rattle.std.proofs.Common.{◌*◌, ap, arith, sym, ◌∙◌, length-take}
+use Rattle.reply.specs.Result.{done}
+use Rattle.reply.specs.Told.{told}
 use Rattle.graph.specs.FrameOf.{few_jobs}
-use Rattle.plan.proofs.CallLaws.{refused_filled}
-use Rattle.timed.proofs.CallLaws.{admitted, short_plan, short_durations, short_out, work_refused, work_filled, work_answer, times_long, times_fit}
+use Rattle.plan.proofs.CallLaws.{refused_filled, done_filled, put_front}
+use Rattle.plan.proofs.ToldSteps.{has_room, met}
+use Rattle.timed.proofs.CallLaws.{admitted_told, short_plan_told, short_durations_told, short_out_told, work_refused_told, work_done_told, timable, times_are, times_long, times_fit}
 use Rattle.timed.proofs.run_framed.Goals as goal
 
 pub overflow_mul-n : goal.overflow_mul-n
 overflow_mul-n c = omega (arith, few_jobs c.requires.0)
 
-pub returns-then-plan-n : goal.returns-then-plan-n
-returns-then-plan-n c =
-    let e = short_plan c.requires.0 _ _ _ _ c.if-plan-n.true in
-    record {
-      result = c.short_buffer.ensures ∙ sym (ap answer_of e);
-      filled = refused_filled _ e;
-    }
+pub returns-in_err-room : goal.returns-in_err-room
+returns-in_err-room c =
+    let e = short_plan_told c.requires.0 _ _ _ _ c.in_err-room.ensures in
+    rw (met _ c.from_residual.ensures.1) (record { result = sym (ap (told (λ times. tt)) e); filled = refused_filled _ e })
 
-pub returns-then-durations-n : goal.returns-then-durations-n
-returns-then-durations-n c =
-    let e = short_durations c.requires.0 _ _ _ _ c.if-plan-n.false c.if-durations-n.true in
-    record {
-      result = c.short_buffer-then-durations-n.ensures ∙ sym (ap answer_of e);
-      filled = refused_filled _ e;
-    }
+pub returns-in_err-room-2 : goal.returns-in_err-room-2
+returns-in_err-room-2 c =
+    let e = short_durations_told c.requires.0 _ _ _ _ c.in_ok-room.ensures c.in_err-room-2.ensures in
+    rw (met _ c.from_residual-in_err-room-2.ensures.1) (record { result = sym (ap (told (λ times. tt)) e); filled = refused_filled _ e })
 
-pub overflow_mul-n-2 : goal.overflow_mul-n-2
-overflow_mul-n-2 c = omega (arith, few_jobs c.requires.0)
+pub returns-in_err-room-3 : goal.returns-in_err-room-3
+returns-in_err-room-3 c =
+    let e = short_out_told c.requires.0 _ _ _ _ c.in_ok-room.ensures c.in_ok-room-2.ensures c.in_err-room-3.ensures in
+    rw (met _ c.from_residual-in_err-room-3.ensures.1) (record { result = sym (ap (told (λ times. tt)) e); filled = refused_filled _ e })
 
-pub returns-then-out-n : goal.returns-then-out-n
-returns-then-out-n c =
-    let e = short_out c.requires.0 _ _ _ _ c.if-plan-n.false c.if-durations-n.false c.if-out-n.true in
-    record {
-      result = c.short_buffer-then-out-n.ensures ∙ sym (ap answer_of e);
-      filled = refused_filled _ e;
-    }
+pub judge-requires : goal.judge-requires
+judge-requires c = (c.requires.0, has_room _ _ c.in_ok-room.ensures, has_room _ _ c.in_ok-room-2.ensures)
 
-pub judge-judged-requires : goal.judge-judged-requires
-judge-judged-requires c = (c.requires.0, c.if-plan-n.false, c.if-durations-n.false)
+pub returns-in_err-judge : goal.returns-in_err-judge
+returns-in_err-judge c =
+    let e = work_refused_told c.requires.0 _ _ _ _ c.in_ok-room.ensures c.in_ok-room-2.ensures c.in_ok-room-3.ensures c.in_err-judge.ensures in
+    rw (met _ c.from_residual-in_err-judge.ensures.1) (record { result = sym (ap (told (λ times. tt)) e); filled = refused_filled _ e })
 
-pub time_jobs-words-requires : goal.time_jobs-words-requires
-time_jobs-words-requires c = let pre = c.requires in
-    admitted pre.0 _ pre.1 pre.2 _ _ c.if-plan-n.false c.if-durations-n.false c.judge-judged.ensures (sym c.number.ensures ∙ c.if-number-eq0.true)
-
-pub overflow_mul-words : goal.overflow_mul-words
-overflow_mul-words c = omega (arith, few_jobs c.requires.0)
+pub time_all-words-requires : goal.time_all-words-requires
+time_all-words-requires c =
+    let pre = c.requires in
+    let good = admitted_told pre.0 _ pre.1 pre.2 _ _ (has_room _ _ c.in_ok-room.ensures) (has_room _ _ c.in_ok-room-2.ensures) c.in_ok-judge.ensures in
+    record { work = _; m = _; timable = timable good }
 
 pub slice_bounds-words-end : goal.slice_bounds-words-end
-slice_bounds-words-end c = let pre = c.requires in
-    times_fit (admitted pre.0 _ pre.1 pre.2 _ _ c.if-plan-n.false c.if-durations-n.false c.judge-judged.ensures (sym c.number.ensures ∙ c.if-number-eq0.true))
-    _ c.time_jobs-words.ensures
+slice_bounds-words-end c =
+    let pre = c.requires in
+    let good = admitted_told pre.0 _ pre.1 pre.2 _ _ (has_room _ _ c.in_ok-room.ensures) (has_room _ _ c.in_ok-room-2.ensures) c.in_ok-judge.ensures in
+    times_fit good _ (times_are good c.time_all-words.ensures)
 
-pub slice_bounds-copy-end : goal.slice_bounds-copy-end
-slice_bounds-copy-end c = let pre = c.requires in
-    sym (times_long (admitted pre.0 _ pre.1 pre.2 _ _ c.if-plan-n.false c.if-durations-n.false c.judge-judged.ensures (sym c.number.ensures ∙ c.if-number-eq0.true))
-    _ c.time_jobs-words.ensures)
+pub slice_bounds-copy_from_slice-end-3 : goal.slice_bounds-copy_from_slice-end-3
+slice_bounds-copy_from_slice-end-3 c =
+    let pre = c.requires in
+    let good = admitted_told pre.0 _ pre.1 pre.2 _ _ (has_room _ _ c.in_ok-room.ensures) (has_room _ _ c.in_ok-room-2.ensures) c.in_ok-judge.ensures in
+    sym (times_long good _ (times_are good c.time_all-words.ensures))
 
-pub copy-requires : goal.copy-requires
-copy-requires c = let pre = c.requires in
+pub copy_from_slice-requires : goal.copy_from_slice-requires
+copy_from_slice-requires c =
+    let pre = c.requires in
+    let good = admitted_told pre.0 _ pre.1 pre.2 _ _ (has_room _ _ c.in_ok-room.ensures) (has_room _ _ c.in_ok-room-2.ensures) c.in_ok-judge.ensures in
     omega (
       arith,
-      c.if-out-n.false,
-      times_long (admitted pre.0 _ pre.1 pre.2 _ _ c.if-plan-n.false c.if-durations-n.false c.judge-judged.ensures (sym c.number.ensures ∙ c.if-number-eq0.true))
-          _ c.time_jobs-words.ensures,
+      length-take (2 * c.args.framed.now.job_count) c.args.out.now,
+      has_room _ _ c.in_ok-room-3.ensures,
+      times_long good _ (times_are good c.time_all-words.ensures),
     )
-
-pub returns-then-number-eq0 : goal.returns-then-number-eq0
-returns-then-number-eq0 c =
-    let pre = c.requires in
-    let zero = sym c.number.ensures ∙ c.if-number-eq0.true in
-    record {
-      result = work_answer pre.0 _ _ _ _ c.if-plan-n.false c.if-durations-n.false c.if-out-n.false c.judge-judged.ensures zero;
-      filled = c.copy.ensures ∙ work_filled pre.0 _ _ _ _ c.if-plan-n.false c.if-durations-n.false c.if-out-n.false c.judge-judged.ensures zero _ c.time_jobs-words.ensures;
-    }
 
 pub returns : goal.returns
 returns c =
     let pre = c.requires in
-    let e = work_refused pre.0 _ _ _ _ c.if-plan-n.false c.if-durations-n.false c.if-out-n.false c.judge-judged.ensures (λ z. c.if-number-eq0.false (c.number.ensures ∙ z)) in
+    let good = admitted_told pre.0 _ pre.1 pre.2 _ _ (has_room _ _ c.in_ok-room.ensures) (has_room _ _ c.in_ok-room-2.ensures) c.in_ok-judge.ensures in
+    let told_so = c.time_all-words.ensures in
+    let e = work_done_told pre.0 _ _ _ _ c.in_ok-room.ensures c.in_ok-room-2.ensures c.in_ok-room-3.ensures c.in_ok-judge.ensures in
     record {
-      result = sym (ap answer_of e);
-      filled = refused_filled _ e;
+      result = sym (ap (told (λ times. tt)) e);
+      filled = rw c.copy_from_slice.ensures.after (put_front _ _ _ (sym (times_long good _ (times_are good told_so))) (has_room _ _ c.in_ok-room-3.ensures) ∙ done_filled _ (e ∙ ap done (sym (times_are good told_so))));
     }

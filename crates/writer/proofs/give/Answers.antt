@@ -1,14 +1,8 @@
 -- `give` meets its contract.
-use Rattle.std.proofs.Common.{refl, rules}
-use Rattle.writer.proofs.EntryPoint.{give_short, give_whole}
+use Rattle.std.proofs.Common.{ap, ◌∙◌}
+use Rattle.writer.specs.Laid.{written_of}
+use Rattle.writer.proofs.EntryPoint.{told_written}
 use Rattle.writer.proofs.give.Goals as goal
 
-pub returns-then-out-size : goal.returns-then-out-size
-returns-then-out-size c =
-    let told = give_short _ _ c.if-out-size.true in
-    record { value = told.0; out_after = told.1 }
-
-pub returns : goal.returns
-returns c =
-    let told = give_whole _ _ (search rules) _ _ refl c.copy.ensures in
-    record { value = told.0; out_after = told.1 }
+pub returns-clause-value : goal.returns-clause-value
+returns-clause-value c = c.written.ensures ∙ ap written_of c.fill.ensures.value ∙ told_written _

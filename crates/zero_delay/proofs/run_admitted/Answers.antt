@@ -1,25 +1,24 @@
 -- `run_admitted` meets its contract: the tables are those of the network, and the frames are run on them.
-use Rattle.zero_delay.specs.CallLaws.{ready, frames_ready, result_is, filled_is}
+use Rattle.graph.specs.FrameOf.{few_jobs}
+use Rattle.zero_delay.specs.CallLaws.{first_process, jobs_there, ready, frames_ready, result_is, filled_is}
 use Rattle.zero_delay.proofs.run_admitted.Goals as goal
+
+pub shared_ref_as_front-jobs : goal.shared_ref_as_front-jobs
+shared_ref_as_front-jobs c = few_jobs c.requires.frame
 
 pub run-requires : goal.run-requires
 run-requires c =
     let admitted = c.requires in
-    record {
-      ready = ready admitted.frame c.kinds_of-kinds.ensures c.processes-processes.ensures;
-      frames_ready = rw c.no_words-words.ensures (frames_ready admitted);
-    }
-
-pub held-holds-requires : goal.held-holds-requires
-held-holds-requires c = c.run.ensures.sound
+    let tables = c.of-tables.ensures in
+    rw (jobs_there c.requires.frame, c.empty-state.ensures, tables.program, tables.counts, tables.channels)
+    (record { ready = ready admitted.frame (first_process _ _); frames_ready = frames_ready admitted })
 
 pub returns : goal.returns
 returns c =
     let frame = c.requires.frame in
-    let kinded = c.kinds_of-kinds.ensures in
-    let told = c.processes-processes.ensures in
-    let did = rw (c.no_words-words.ensures, c.no_variables-variables.ensures) at c.run.ensures in
+    let tables = c.of-tables.ensures in
+    let did = rw (jobs_there c.requires.frame, c.empty-state.ensures, tables.program, tables.counts, tables.channels) at c.run.ensures in
     record {
-      result = rw c.held-holds.ensures (result_is frame kinded told did);
-      filled = filled_is frame kinded told did;
+      result = rw (c.done.ensures, c.held.ensures) (result_is frame (first_process _ _) did);
+      filled = filled_is frame (first_process _ _) did;
     }

@@ -1,11 +1,10 @@
-use Rattle.graph.proofs.ColumnLoop.{start, turn, finish}
+-- `columns::low_words` meets its contract.
+use Rattle.std.proofs.Common.{rules}
+use Rattle.marks.specs.Row.{no_marks}
 use Rattle.graph.proofs.columns.low_words.Goals as goal
 
-pub loop-j-init : goal.loop-j-init
-loop-j-init c = start c.no_words-column.ensures
-
-pub loop-j-preserved : goal.loop-j-preserved
-loop-j-preserved c = turn c.loop-j.invariant c.loop-j-test.true
-
 pub returns : goal.returns
-returns c = finish c.loop-j.invariant c.loop-j-test.false
+returns c = record {
+  size = c.map.ensures.items.long;
+  each = λ j h. let (p, q, called) = c.map.ensures.items.at j no_marks 0 h in search rules;
+}

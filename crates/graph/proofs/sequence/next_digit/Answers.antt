@@ -1,14 +1,10 @@
 -- `sequence::next_digit` meets its contract.
-use Rattle.std.proofs.Common.{arith, ◌/◌, ◌^◌}
-use lib.Count.{trailing_le}
-use Rattle.graph.proofs.Digits.{next_found}
+use Rattle.std.proofs.Common.{rules}
+use Rattle.graph.proofs.Digits.{next_none, next_found}
 use Rattle.graph.proofs.sequence.next_digit.Goals as goal
 
-pub overflow_cast-result : goal.overflow_cast-result
-overflow_cast-result c = record { fits = omega (arith, trailing_le 64 (c.args.word / 2 ^ c.args.at)) }
-
-pub overflow_add-result : goal.overflow_add-result
-overflow_add-result c = omega (arith, trailing_le 64 (c.args.word / 2 ^ c.args.at))
+pub returns-then-rest-eq0 : goal.returns-then-rest-eq0
+returns-then-rest-eq0 c = next_none _ _ c.if-rest-eq0.true
 
 pub returns : goal.returns
-returns c = next_found _ _
+returns c = next_found _ _ c.if-rest-eq0.false (search rules)

@@ -1,10 +1,6 @@
--- `channels::with_value` meets its contract, place by place.
-use Rattle.std.proofs.Common.{◌-◌, cond, eqb, get_or}
-use Rattle.machine.proofs.ValuesLoop.{Put}
+-- `channels::with_value` meets its contract: the new value stands once its place was passed.
+use Rattle.std.proofs.Common.{◌≡◌, ◌<◌, ◌≤◌, set}
 use Rattle.machine.proofs.channels.with_value.Given as goal
 
 abbrev pub invariant-loop-k : goal.invariant-loop-k
-invariant-loop-k l = Put l.initial.written 0 (λ i. cond (eqb l.at i) l.value (get_or l.values i 0)) l.k l.written
-
-abbrev pub decreases-loop-k : goal.decreases-loop-k
-decreases-loop-k l = 8 - l.k
+invariant-loop-k l = record { passed : l.at < l.k → l.written ≡ set l.fn.values l.at l.value; ahead : l.k ≤ l.at → l.written ≡ l.fn.values }

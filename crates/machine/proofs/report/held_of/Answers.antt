@@ -1,12 +1,12 @@
-use Rattle.std.proofs.Common.{arith, rules, refl}
+use Rattle.std.proofs.Common.{arith, refl}
 use Rattle.machine.proofs.HeldLoops.{start, turn, values_told}
 use Rattle.machine.proofs.report.held_of.Goals as goal
 
 pub loop-k-init : goal.loop-k-init
-loop-k-init c = (search rules, start 8 0 _)
+loop-k-init c = start 8 0 _
 
 pub loop-k-preserved : goal.loop-k-preserved
-loop-k-preserved c = (search rules, turn 8 0 _ _ _ _ (omega arith) c.loop-k.invariant.1 refl)
+loop-k-preserved c = turn 8 0 _ _ _ _ (omega arith) c.loop-k.invariant refl
 
 pub returns : goal.returns
-returns c = values_told _ _ _ c.loop-k.invariant.0 c.loop-k-test.false c.loop-k.invariant.1
+returns c = values_told _ _ _ (omega arith) c.loop-k-test.false c.loop-k.invariant

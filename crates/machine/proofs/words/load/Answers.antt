@@ -3,4 +3,4 @@ use Rattle.machine.specs.WordLaws.{loaded_is}
 use Rattle.machine.proofs.words.load.Goals as goal
 
 pub returns : goal.returns
-returns c = loaded_is _ _ c.load_values-values.ensures
+returns c = loaded_is _ _ c.load_values.ensures

@@ -1,10 +1,7 @@
 -- `words::store_values` meets its contract.
-use Rattle.std.proofs.Common.{◌-◌, get_or}
+use Rattle.std.proofs.Common.{get_or}
 use Rattle.machine.proofs.ValuesLoop.{Put}
 use Rattle.machine.proofs.words.store_values.Given as goal
 
 abbrev pub invariant-loop-k : goal.invariant-loop-k
 invariant-loop-k l = Put l.initial.words l.at (λ i. get_or l.values i 0) l.k l.words
-
-abbrev pub decreases-loop-k : goal.decreases-loop-k
-decreases-loop-k l = 8 - l.k

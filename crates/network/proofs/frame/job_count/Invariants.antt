@@ -1,10 +1,11 @@
--- `frame::job_count` meets its contract. The loop's invariant is `JobsSoFar`; the measure, the processes still to come.
-use Rattle.std.proofs.Common.{◌-◌, ◌≤◌}
-use Rattle.network.proofs.FrameLoops.{JobsSoFar}
+-- `frame::job_count` meets its contract. The loop's invariant: the jobs of the processes so far; 2000 jobs times a burst below 2 ^ 32 each, at most.
+use Rattle.std.proofs.Common.{◌≡◌, ◌≤◌, ◌*◌}
+use Rattle.reply.specs.Tools.{sum}
+use Rattle.network.specs.Frame.{process_at, jobs_of}
 use Rattle.network.proofs.frame.job_count.Given as goal
 
-abbrev pub invariant-loop-i : goal.invariant-loop-i
-invariant-loop-i l = (l.i ≤ l.count) × JobsSoFar l.frame l.processes l.i l.jobs
-
-abbrev pub decreases-loop-i : goal.decreases-loop-i
-decreases-loop-i l = l.count - l.i
+abbrev pub invariant-loop-process : goal.invariant-loop-process
+invariant-loop-process l = record {
+  is : l.jobs ≡ sum l.process-index (λ k. jobs_of l.frame (process_at l.processes k));
+  most : l.jobs ≤ l.process-index * 8589934592000;
+}

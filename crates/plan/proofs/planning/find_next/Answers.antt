@@ -1,48 +1,37 @@
 -- `planning::find_next` meets its contract.
 use Rattle.std.proofs.Common.{arith}
+use Rattle.plan.proofs.PlanLoops.{found_low, one_found}
 use Rattle.plan.proofs.planning.find_next.Goals as goal
 
-pub choose-choice-requires : goal.choose-choice-requires
-choose-choice-requires c = c.requires.due
+pub offset_bounds-framed-job : goal.offset_bounds-framed-job
+offset_bounds-framed-job c = omega (arith, found_low _ _ _ c.unwrap-job.ensures c.choose.ensures, c.requires.1)
 
-pub overflow_sub-job : goal.overflow_sub-job
-overflow_sub-job c = omega (arith, c.choose-choice.ensures.0, c.requires.some)
+pub bounds-framed-job : goal.bounds-framed-job
+bounds-framed-job c = omega (arith, found_low _ _ _ c.unwrap-job.ensures c.choose.ensures, c.requires.1)
 
-pub offset_bounds-lows-job : goal.offset_bounds-lows-job
-offset_bounds-lows-job c = omega (arith, c.choose-choice.ensures.1, c.requires.due.few)
+pub offset_bounds-framed-job-2 : goal.offset_bounds-framed-job-2
+offset_bounds-framed-job-2 c = omega (arith, found_low _ _ _ c.unwrap-job.ensures c.choose.ensures, c.requires.1)
 
-pub bounds-lows-job : goal.bounds-lows-job
-bounds-lows-job c = omega (arith, c.choose-choice.ensures.1, c.requires.due.few, c.choose-choice.ensures.0, c.requires.some)
-
-pub offset_bounds-highs-job : goal.offset_bounds-highs-job
-offset_bounds-highs-job c = omega (arith, c.choose-choice.ensures.1, c.requires.due.few)
-
-pub bounds-highs-job : goal.bounds-highs-job
-bounds-highs-job c = omega (arith, c.choose-choice.ensures.1, c.requires.due.few, c.choose-choice.ensures.0, c.requires.some)
-
-pub offset_bounds-releases-job : goal.offset_bounds-releases-job
-offset_bounds-releases-job c = omega (arith, c.choose-choice.ensures.1, c.requires.due.few)
-
-pub bounds-releases-job : goal.bounds-releases-job
-bounds-releases-job c = omega (arith, c.choose-choice.ensures.1, c.requires.due.few, c.choose-choice.ensures.0, c.requires.some)
+pub bounds-framed-job-2 : goal.bounds-framed-job-2
+bounds-framed-job-2 c = omega (arith, found_low _ _ _ c.unwrap-job.ensures c.choose.ensures, c.requires.1)
 
 pub ready_at-ready-requires : goal.ready_at-ready-requires
-ready_at-ready-requires c = omega (arith, c.choose-choice.ensures.1, c.requires.due.few)
+ready_at-ready-requires c = omega (arith, found_low _ _ _ c.unwrap-job.ensures c.choose.ensures, c.requires.1)
 
-pub earliest-processor-requires : goal.earliest-processor-requires
-earliest-processor-requires c = c.requires.processors
+pub unwrap-processor-requires : goal.unwrap-processor-requires
+unwrap-processor-requires c = one_found _ c.requires.2 c.earliest.ensures
 
-pub offset_bounds-last-processor : goal.offset_bounds-last-processor
-offset_bounds-last-processor c = omega (arith, c.earliest-processor.ensures.1, c.requires.processors)
+pub offset_bounds-placed-processor : goal.offset_bounds-placed-processor
+offset_bounds-placed-processor c = omega (arith, found_low _ _ _ c.unwrap-processor.ensures c.earliest.ensures, c.requires.3)
 
-pub bounds-last-processor : goal.bounds-last-processor
-bounds-last-processor c = omega (arith, c.earliest-processor.ensures.1, c.requires.processors)
+pub bounds-placed-processor : goal.bounds-placed-processor
+bounds-placed-processor c = omega (arith, found_low _ _ _ c.unwrap-processor.ensures c.earliest.ensures, c.requires.3)
 
 pub returns : goal.returns
 returns c = record {
-  job_is = omega (arith, c.choose-choice.ensures.0, c.requires.some);
+  job_is = (found_low _ _ _ c.unwrap-job.ensures c.choose.ensures).1;
   ready = _;
   ready_is = c.ready_at-ready.ensures;
-  processor_is = c.earliest-processor.ensures.0;
-  start_is = c.later-start.ensures;
+  processor_is = (found_low _ _ _ c.unwrap-processor.ensures c.earliest.ensures).1;
+  start_is = c.max-start.ensures;
 }

@@ -1,19 +1,15 @@
-use Rattle.std.proofs.Common.{ap, arith, rules, sym, ◌∙◌}
-use Rattle.reader.specs.Told.{channels_of}
-use Rattle.reader.proofs.Loop.{start, step, stop, finish}
-use Rattle.reader.proofs.Records.{channel_got, channel_not}
+-- `channels::read_channels` meets its contract: after the count, so many channels.
+use Rattle.std.proofs.Common.{rules}
+use Rattle.network.specs.Told.{ends_by}
+use Rattle.reader.proofs.Lists.{told_most}
+use Rattle.reader.proofs.Parts.{channels_listed, channels_cut}
 use Rattle.reader.proofs.channels.read_channels.Goals as goal
 
-pub loop-i-init : goal.loop-i-init
-loop-i-init c = (search rules, start _ _ _ _ _ c.no_channels-channels.ensures)
+pub read_list-requires : goal.read_list-requires
+read_list-requires c = (c.requires, told_most c.args.file.now 0 16 c.args.at c.in_ok-count.ensures)
 
-pub loop-i-preserved : goal.loop-i-preserved
-loop-i-preserved c = (search rules, step _ _ _ _ c.loop-i.invariant.1 _ _ (omega arith) (channel_got _ (sym c.in-Got.is ∙ c.read_channel.ensures)))
-
-pub returns-in-Refused : goal.returns-in-Refused
-returns-in-Refused c = c.stopped.ensures
-    ∙ ap channels_of (sym (stop _ _ _ _ c.loop-i.invariant.1 _ _ _ c.loop-i-test.true (channel_not _ (sym c.in-Refused.is ∙ c.read_channel.ensures))))
+pub returns-in_err-channels : goal.returns-in_err-channels
+returns-in_err-channels c = search (rules, channels_cut c.args.file.now (ends_by c.args.n c.args.rows) c.args.at c.in_ok-count.ensures)
 
 pub returns : goal.returns
-returns c = let s = c.loop-i.invariant.1 in
-    rw (finish _ _ _ _ s _ c.loop-i.invariant.0 c.loop-i-test.false, s.stands)
+returns c = channels_listed c.args.file.now (ends_by c.args.n c.args.rows) c.args.at c.in_ok-count.ensures c.in_ok-channels.ensures

@@ -1,19 +1,20 @@
-use Rattle.std.proofs.Common.{ap, arith, rules, sym, ◌∙◌}
-use Rattle.reader.specs.Told.{processes_of}
-use Rattle.reader.proofs.Loop.{start, step, stop, finish}
-use Rattle.reader.proofs.Records.{process_any, process_got, process_not}
+-- `processes::read_processes` meets its contract: after the count, so many processes, whose frame is judged.
+use Rattle.std.proofs.Common.{rules}
+use Rattle.reader.proofs.Lists.{told_most}
+use Rattle.reader.proofs.Parts.{frame_fits, frame_large}
 use Rattle.reader.proofs.processes.read_processes.Goals as goal
 
-pub loop-i-init : goal.loop-i-init
-loop-i-init c = (search rules, start _ _ _ _ _ c.no_processes-processes.ensures)
+pub read_list-requires : goal.read_list-requires
+read_list-requires c = told_most c.args.file.now 1 12 c.args.at c.in_ok-count.ensures
 
-pub loop-i-preserved : goal.loop-i-preserved
-loop-i-preserved c = (search rules, step _ _ _ _ c.loop-i.invariant.1 _ _ (omega arith) (process_any _ _ _ ∙ process_got _ (sym c.in-Got.is ∙ c.read_process.ensures)))
+pub slice_bounds-processes-end : goal.slice_bounds-processes-end
+slice_bounds-processes-end c = let most = told_most c.args.file.now 1 12 c.args.at c.in_ok-count.ensures in search rules
 
-pub returns-in-Refused : goal.returns-in-Refused
-returns-in-Refused c = c.stopped.ensures
-    ∙ ap processes_of (sym (stop _ _ _ _ c.loop-i.invariant.1 _ _ _ c.loop-i-test.true (process_any _ _ _ ∙ process_not _ (sym c.in-Refused.is ∙ c.read_process.ensures))))
+pub slice_bounds-fits_frame-end : goal.slice_bounds-fits_frame-end
+slice_bounds-fits_frame-end c = let most = told_most c.args.file.now 1 12 c.args.at c.in_ok-count.ensures in search rules
+
+pub returns-then-fits_frame : goal.returns-then-fits_frame
+returns-then-fits_frame c = frame_fits c.args.file.now c.args.at c.in_ok-count.ensures c.in_ok-processes.ensures c.fits_frame.ensures c.if-fits_frame.true
 
 pub returns : goal.returns
-returns c = let s = c.loop-i.invariant.1 in
-    rw (finish _ _ _ _ s _ c.loop-i.invariant.0 c.loop-i-test.false, s.stands)
+returns c = frame_large c.args.file.now c.args.at c.in_ok-count.ensures c.in_ok-processes.ensures c.fits_frame.ensures c.if-fits_frame.false

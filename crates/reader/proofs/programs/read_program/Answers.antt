@@ -1,18 +1,21 @@
--- `programs::read_program` meets its contract.
-use Rattle.std.proofs.Common.{sym, ◌∙◌}
-use Rattle.number.specs.Told.{value_is, refused_is}
-use Rattle.reader.proofs.ProgramLoop.{ranged_high, program_read, program_stops, program_none}
+-- `programs::read_program` meets its contract: after the count, so many actions.
+use Rattle.std.proofs.lemmas.Result.{err_from_is_err_and}
+use Rattle.reader.proofs.Lists.{told_most}
+use Rattle.reader.proofs.ProgramLoop.{program_read, program_stops, program_none}
 use Rattle.reader.proofs.programs.read_program.Goals as goal
 
+pub returns-in_err-n : goal.returns-in_err-n
+returns-in_err-n c =
+    let p = err_from_is_err_and c.from_residual.result c.from_residual.ensures.1 in
+    rw (p.1, p.2) (program_none _ _ _ _ _ _ c.in_err-n.ensures)
+
 pub read_actions-requires : goal.read_actions-requires
-read_actions-requires c = let pre = c.requires in
-    (pre.0, pre.1, ranged_high _ _ _ _ _ _ (value_is _ (sym c.in-Value.is ∙ c.in_range.ensures)))
+read_actions-requires c = (c.requires, told_most c.args.file.now 0 24 c.args.at c.in_ok-n.ensures)
 
-pub returns-in-Next : goal.returns-in-Next
-returns-in-Next c = program_read _ _ _ _ _ _ _ _ (value_is _ (sym c.in-Value.is ∙ c.in_range.ensures)) _ c.read_actions.ensures _ c.in-Next.is
+pub returns-in_err-at : goal.returns-in_err-at
+returns-in_err-at c =
+    let p = err_from_is_err_and c.from_residual-in_err-at.result c.from_residual-in_err-at.ensures.1 in
+    rw (p.1, p.2) (program_stops _ _ _ _ _ _ c.in_ok-n.ensures c.in_err-at.ensures)
 
-pub returns-in-Refused-read_actions : goal.returns-in-Refused-read_actions
-returns-in-Refused-read_actions c = program_stops _ _ _ _ _ _ _ _ (value_is _ (sym c.in-Value.is ∙ c.in_range.ensures)) _ c.read_actions.ensures _ _ c.in-Refused-read_actions.is
-
-pub returns-in-Refused : goal.returns-in-Refused
-returns-in-Refused c = program_none _ _ _ _ _ _ _ _ (refused_is _ (sym c.in-Refused.is ∙ c.in_range.ensures))
+pub returns : goal.returns
+returns c = program_read _ _ _ _ _ _ c.in_ok-n.ensures c.in_ok-at.ensures

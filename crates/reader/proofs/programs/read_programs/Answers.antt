@@ -1,22 +1,15 @@
-use Rattle.std.proofs.Common.{rules}
-use Rattle.reader.proofs.ProgramLoop.{programs_start, programs_step, programs_stop, programs_end}
+use Rattle.std.proofs.Common.{arith}
+use Rattle.std.proofs.lemmas.Result.{err_from_is_err_and}
+use Rattle.reader.proofs.ProgramLoop.{programs_start, programs_step, programs_stop}
 use Rattle.reader.proofs.programs.read_programs.Goals as goal
 
 pub loop-p-init : goal.loop-p-init
-loop-p-init c = let pre = c.requires in
-    (search rules, pre.processes, pre.channels, programs_start _ _ _ _ _ pre.counts_zero pre.actions_zero)
+loop-p-init c = programs_start _ _ _ _ _ c.requires.counts_zero c.requires.actions_zero
 
-pub read_program-requires : goal.read_program-requires
-read_program-requires c = let inv = c.loop-p.invariant in
-    (inv.2, search rules)
+pub returns-in_err-n : goal.returns-in_err-n
+returns-in_err-n c =
+    let p = err_from_is_err_and c.from_residual.result c.from_residual.ensures.1 in
+    rw (p.1, p.2) (programs_stop _ _ _ c.loop-p.invariant _ c.loop-p-test.true c.in_err-n.ensures)
 
 pub loop-p-preserved : goal.loop-p-preserved
-loop-p-preserved c = let inv = c.loop-p.invariant in
-    (search rules, inv.1, inv.2, programs_step _ _ _ inv.3 _ _ _ _ (search rules) c.read_program.ensures c.in-Value.is)
-
-pub returns-in-Refused : goal.returns-in-Refused
-returns-in-Refused c = programs_stop _ _ _ c.loop-p.invariant.3 _ _ _ _ _ _ c.loop-p-test.true c.read_program.ensures c.in-Refused.is
-
-pub returns : goal.returns
-returns c = let inv = c.loop-p.invariant in
-    programs_end _ _ _ inv.3 _ inv.0 c.loop-p-test.false
+loop-p-preserved c = programs_step _ _ _ c.loop-p.invariant (omega arith) c.in_ok-n.ensures

@@ -1,5 +1,5 @@
--- `programs::store_four` meets its contract.
-use Rattle.reader.proofs.Actions.{four_stores}
+-- `programs::store_four` meets its contract: four numbers stand in four places.
+use Rattle.reader.proofs.ActionLoop.{four_stores}
 use Rattle.reader.proofs.programs.store_four.Goals as goal
 
 pub returns : goal.returns

@@ -1,11 +1,7 @@
--- `timing::time_all` meets its contract: job after job is timed.
-use Rattle.std.proofs.Common.{◌-◌}
-use Rattle.timed.specs.TimedTold.{lent}
+-- `timing::time_all` meets its contract: job after job is timed, and the keys tell which are not.
+use Rattle.timed.specs.TimedTold.{lent, KeysTell}
 use Rattle.timed.proofs.TimedLoops.{Going}
 use Rattle.timed.proofs.timing.time_all.Given as goal
 
-abbrev pub invariant-loop-k : goal.invariant-loop-k
-invariant-loop-k l = Going (lent l.releases l.lows l.highs l.plan l.durations) l.n l.keys l.ends l.last l.words l.k
-
-abbrev pub decreases-loop-k : goal.decreases-loop-k
-decreases-loop-k l = l.n - l.k
+abbrev pub invariant-loop : goal.invariant-loop
+invariant-loop l = Going (lent l.framed l.plan l.durations) l.timing l.counter × KeysTell l.timing.jobs l.plan l.framed.job_count l.keys

@@ -1,16 +1,11 @@
+-- `judging::judge` meets its contract: no turn is found that names no processor, or the first.
 use Rattle.std.proofs.Common.{ap, sym}
-use Rattle.reply.specs.Result.{answer_of}
-use Rattle.turns.proofs.TurnJudge.{start, go_on, stop, finish}
+use Rattle.reply.specs.Told.{judged}
+use Rattle.turns.proofs.TurnJudge.{all_named, wrong}
 use Rattle.turns.proofs.judging.judge.Goals as goal
 
-pub loop-t-init : goal.loop-t-init
-loop-t-init c = start _ _
+pub returns-in-None : goal.returns-in-None
+returns-in-None c = sym (ap judged (all_named _ _ (sym c.in-None.ensures)))
 
-pub returns-then-processors-turns : goal.returns-then-processors-turns
-returns-then-processors-turns c = sym (ap answer_of (stop _ _ c.loop-t.invariant c.loop-t-test.true c.if-processors-turns.true))
-
-pub loop-t-preserved : goal.loop-t-preserved
-loop-t-preserved c = go_on _ _ c.loop-t.invariant c.loop-t-test.true c.if-processors-turns.false
-
-pub returns : goal.returns
-returns c = sym (ap answer_of (finish _ _ c.loop-t.invariant c.loop-t-test.false))
+pub returns-in-Some : goal.returns-in-Some
+returns-in-Some c = sym (ap judged (wrong _ _ _ (sym c.in-Some.ensures)))

@@ -1,10 +1,6 @@
--- `order::next_from` meets its contract: the best of all jobs.
-use Rattle.std.proofs.Common.{◌-◌}
+-- `order::next_from` meets its contract: the best of the jobs so far.
 use Rattle.turns.proofs.OrderLoops.{BestTo}
 use Rattle.turns.proofs.order.next_from.Given as goal
 
 abbrev pub invariant-loop-i : goal.invariant-loop-i
-invariant-loop-i l = BestTo l.plan l.jobs l.m l.from l.best l.i
-
-abbrev pub decreases-loop-i : goal.decreases-loop-i
-decreases-loop-i l = l.jobs - l.i
+invariant-loop-i l = BestTo l.plan l.m l.from l.best l.i

@@ -7,5 +7,5 @@ use Rattle.writer.proofs.writing.put_number.Goals as goal
 pub put_groups-requires : goal.put_groups-requires
 put_groups-requires c = omega (arith, encode_most c.args.n)
 
-pub returns-clause-laid : goal.returns-clause-laid
-returns-clause-laid c = one _ _ _ c.put_groups.ensures.value c.put_groups.ensures.out_after
+pub returns : goal.returns
+returns c = one _ _ _ c.put_groups.ensures.value c.put_groups.ensures.out_after

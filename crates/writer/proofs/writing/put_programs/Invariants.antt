@@ -1,5 +1,5 @@
--- `writing::put_programs` meets its contract. The loop's invariant: the first p programs are laid; the measure, those still to lay.
-use Rattle.std.proofs.Common.{get_or, ◌*◌, ◌-◌, ◌≤◌}
+-- `writing::put_programs` meets its contract. The loop's invariant: the first p programs are laid.
+use Rattle.std.proofs.Common.{get_or, ◌*◌}
 use Rattle.network.specs.Lists.{table}
 use Rattle.network.specs.Net.{program_at}
 use Rattle.network.specs.Write.{program_fields}
@@ -7,7 +7,4 @@ use Rattle.writer.specs.Laid.{Laid}
 use Rattle.writer.proofs.writing.put_programs.Given as goal
 
 abbrev pub invariant-loop-p : goal.invariant-loop-p
-invariant-loop-p l = (l.p ≤ l.n) × Laid l.initial.out l.from (program_fields l.counts (table l.p (λ p. program_at l.actions (get_or l.counts p 0) p))) (485 * l.p) l.out l.at
-
-abbrev pub decreases-loop-p : goal.decreases-loop-p
-decreases-loop-p l = l.n - l.p
+invariant-loop-p l = Laid l.initial.out l.from (program_fields l.network.action_counts (table l.p (λ p. program_at l.network.actions (get_or l.network.action_counts p 0) p))) (485 * l.p) l.out l.at

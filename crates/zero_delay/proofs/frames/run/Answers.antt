@@ -1,4 +1,4 @@
-use Rattle.std.proofs.Common.{arith, rules}
+use Rattle.std.proofs.Common.{arith, rules, length}
 use Rattle.zero_delay.proofs.FramesLoop.{part_within, needed_most, width_is, part_long, start, in_input, in_output, frame_room, turn, finish}
 use Rattle.zero_delay.proofs.frames.run.Goals as goal
 
@@ -12,22 +12,22 @@ loop-f-init c = start c.requires.ready c.requires.frames_ready
 pub overflow_mul-from : goal.overflow_mul-from
 overflow_mul-from c = omega (
   arith,
-  part_within c.loop-f.f c.args.jobs c.args.frames c.loop-f-test.true,
-  needed_most c.args.jobs c.args.frames c.requires.ready.few c.requires.frames_ready.few,
+  part_within c.loop-f.f (length c.args.jobs.now) c.args.frames c.loop-f-test.true,
+  needed_most (length c.args.jobs.now) c.args.frames c.requires.ready.few c.requires.frames_ready.few,
 )
 
 pub overflow_add-to : goal.overflow_add-to
 overflow_add-to c = omega (
   arith,
-  part_within c.loop-f.f c.args.jobs c.args.frames c.loop-f-test.true,
-  needed_most c.args.jobs c.args.frames c.requires.ready.few c.requires.frames_ready.few,
+  part_within c.loop-f.f (length c.args.jobs.now) c.args.frames c.loop-f-test.true,
+  needed_most (length c.args.jobs.now) c.args.frames c.requires.ready.few c.requires.frames_ready.few,
 )
 
 pub offset_bounds-input-from : goal.offset_bounds-input-from
 offset_bounds-input-from c = omega (
   arith,
-  part_within c.loop-f.f c.args.jobs c.args.frames c.loop-f-test.true,
-  needed_most c.args.jobs c.args.frames c.requires.ready.few c.requires.frames_ready.few,
+  part_within c.loop-f.f (length c.args.jobs.now) c.args.frames c.loop-f-test.true,
+  needed_most (length c.args.jobs.now) c.args.frames c.requires.ready.few c.requires.frames_ready.few,
 )
 
 pub slice_bounds-frame-end : goal.slice_bounds-frame-end
@@ -36,8 +36,8 @@ slice_bounds-frame-end c = omega (arith, in_input c.requires.ready c.requires.fr
 pub offset_bounds-output-from : goal.offset_bounds-output-from
 offset_bounds-output-from c = omega (
   arith,
-  part_within c.loop-f.f c.args.jobs c.args.frames c.loop-f-test.true,
-  needed_most c.args.jobs c.args.frames c.requires.ready.few c.requires.frames_ready.few,
+  part_within c.loop-f.f (length c.args.jobs.now) c.args.frames c.loop-f-test.true,
+  needed_most (length c.args.jobs.now) c.args.frames c.requires.ready.few c.requires.frames_ready.few,
 )
 
 pub slice_bounds-frame-end-in-loop-f : goal.slice_bounds-frame-end-in-loop-f

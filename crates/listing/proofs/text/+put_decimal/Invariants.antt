@@ -1,5 +1,0 @@
--- `text::put_decimal` calls itself on the tenth of its number; the measure is the number.
-use Rattle.listing.proofs.text.+put_decimal.Given as goal
-
-abbrev pub decreases-put_decimal : goal.decreases-put_decimal
-decreases-put_decimal l = l.n

@@ -1,0 +1,26 @@
+-- Kind and capacity of each channel stand where the table of kinds has them.
+use Rattle.std.specs.Prelude.{◌≡◌, ℕ, zero, suc, ◌+◌, ◌*◌, List, [], ◌∷◌, length, slice_index, slice_index_or, refl}
+use Rattle.std.proofs.Common.{arith}
+use Rattle.network.specs.Net.{no_channel}
+use Rattle.network.specs.declared.Channel.{Channel}
+use Rattle.machine.specs.Acting.{kinds_in, KindsTold}
+
+pub kind_at : (l : List Channel) (c : ℕ) → slice_index (kinds_in l) (2 * c) ≡ (slice_index_or l c no_channel).kind
+unfolding kinds_in
+kind_at [] c = refl
+kind_at (x ∷ l) zero = refl
+kind_at (x ∷ l) (suc c) = let next : 2 * suc c ≡ suc (suc (2 * c)) = omega arith in rw next (kind_at l c)
+
+pub capacity_at : (l : List Channel) (c : ℕ) → slice_index (kinds_in l) (2 * c + 1) ≡ (slice_index_or l c no_channel).capacity
+unfolding kinds_in
+capacity_at [] c = refl
+capacity_at (x ∷ l) zero = refl
+capacity_at (x ∷ l) (suc c) = let next : 2 * suc c + 1 ≡ suc (suc (2 * c + 1)) = omega arith in rw next (capacity_at l c)
+
+length_kinds : (l : List Channel) → length (kinds_in l) ≡ 2 * length l
+unfolding kinds_in
+length_kinds [] = refl
+length_kinds (x ∷ l) = omega (arith, length_kinds l)
+
+pub kinds_told : (l : List Channel) → length l ≡ 16 → KindsTold l (kinds_in l)
+kinds_told l e = record { size = omega (arith, length_kinds l); kind = λ c h. kind_at l c; capacity = λ c h. capacity_at l c }

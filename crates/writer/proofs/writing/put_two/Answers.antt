@@ -1,6 +1,0 @@
--- `writing::put_two` meets its contract.
-use Rattle.writer.proofs.Laying.{join}
-use Rattle.writer.proofs.writing.put_two.Goals as goal
-
-pub returns : goal.returns
-returns c = join c.put_number-at.ensures.laid c.put_number.ensures.laid
