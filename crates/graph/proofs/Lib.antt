@@ -13,3 +13,4 @@ mod TakeOne
 mod Totals
 pub mod WorkLaws
 pub mod Promise
+mod ColumnLoop

@@ -1,6 +1,8 @@
 -- Text put into a buffer, and the text that a graph and a plan make.
-use Rattle.std.specs.Prelude.{ℕ, ◌+◌, ◌≡◌, List, ◌++◌, length, replicate}
+use Rattle.std.specs.Prelude.{ℕ, ◌+◌, ◌≡◌, List, ◌++◌, length, replicate, Ok, Err}
+use Rattle.std.specs.declared.result.Result as Std
 use Rattle.std.proofs.lemmas.List.Edits.{sets}
+use Rattle.reply.specs.declared.Refusal.{Refusal}
 use Rattle.graph.specs.declared.PrecedenceGraph.{PrecedenceGraph}
 use Rattle.listing.specs.Listing.{head_line, job_lines}
 use Rattle.listing.specs.declared.text.Text.{Text}
@@ -20,6 +22,11 @@ no_text = record { bytes = replicate 4096 0; length = 0 }
 
 abbrev pub text_with : List ℕ → Text
 text_with bytes = record { bytes = sets (replicate 4096 0) 0 bytes; length = length bytes }
+
+-- what a step gives that puts a text into a lent one: that text, or why there is none
+abbrev pub with_text : Std.Result (Unit {0}) Refusal → Text → Std.Result Text Refusal
+with_text (Ok put) text = Ok text
+with_text (Err refusal) text = Err refusal
 
 -- the listing of what `graph` returns, with a plan
 unfoldable pub text_by : PrecedenceGraph → List ℕ → List ℕ

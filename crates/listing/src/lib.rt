@@ -4,10 +4,10 @@
 mod lines;
 mod text;
 
-ghost use Rattle.std.specs.Prelude.{◌≡◌, ◌+◌, ◌≤◌, length};
+ghost use Rattle.std.specs.Prelude.{◌≡◌, ◌+◌, ◌≤◌, length, OnErr};
 ghost use Rattle.reply.specs.Told.{told};
 ghost use Rattle.listing.specs.Listing.{listed, list_call, listed_of, list_filled, page_of};
-ghost use Rattle.listing.specs.Printed.{Printed, Put, text_by, text_with};
+ghost use Rattle.listing.specs.Printed.{Printed, Put, no_text, text_by, text_with, with_text};
 
 use crate::text::Text;
 use graph::PrecedenceGraph;
@@ -30,17 +30,19 @@ fn put_listing(text: &mut Text, graph: &PrecedenceGraph, plan: &[u32; 256])
     lines::put_lines(text, graph.job_count as usize, &graph.jobs, plan);
 }
 
-// The text of a file's network and its plan.
-fn text_of(file: &[u8]) -> Result<Text, Refusal>
-    ensures { result ≡ told text_with (listed file.now) }
+// Puts the text of a file's network and its plan into an empty text, or leaves that as it is.
+// Kept: the text is lent, since by value, in a result, it takes 20 KiB more of the stack.
+fn put_text(file: &[u8], text: &mut Text) -> Result<(), Refusal>
+    requires { text.old ≡ no_text }
+    ensures value { with_text result text.new ≡ told text_with (listed file.now) }
+    ensures kept { OnErr result (text.new ≡ text.old) }
 {
     let mut words = [0; 256];
     let planned = plan::plan(file, 2, &mut words);
     planned.ok()?;
     let graph = graph::graph(file);
-    let mut text = Text::empty();
-    put_listing(&mut text, &graph, &words);
-    Ok(text)
+    put_listing(text, &graph, &words);
+    Ok(())
 }
 
 // Lists a file's network: the text from the front of `out`.
@@ -48,8 +50,9 @@ pub fn list(file: &[u8], out: &mut [u8]) -> Listed
     ensures result { result ≡ listed_of (list_call file.now out.old) }
     ensures filled { out.new ≡ list_filled (list_call file.now out.old) out.old }
 {
-    match text_of(file) {
-        Ok(text) => {
+    let mut text = Text::empty();
+    match put_text(file, &mut text) {
+        Ok(()) => {
             let Written { answer, length } = writer::give(text.as_bytes(), out);
             Listed { answer, length }
         }
@@ -60,13 +63,14 @@ pub fn list(file: &[u8], out: &mut [u8]) -> Listed
     }
 }
 
-// The listing of a file, or the line of its refusal.
-fn page_text(file: &[u8]) -> Text
-    ensures { result ≡ text_with (page_of file.now) }
+// Puts the listing of a file, or the line of its refusal, into an empty text.
+fn put_page(file: &[u8], text: &mut Text)
+    requires { text.old ≡ no_text }
+    ensures { text.new ≡ text_with (page_of file.now) }
 {
-    match text_of(file) {
-        Ok(text) => text,
-        Err(refusal) => lines::refusal_text(refusal),
+    match put_text(file, text) {
+        Ok(()) => {}
+        Err(refusal) => lines::put_refusal(text, refusal),
     }
 }
 
@@ -74,7 +78,8 @@ fn page_text(file: &[u8]) -> Text
 pub fn page(file: &[u8], out: &mut [u8; 4096]) -> usize
     ensures { Printed out.old 0 (page_of file.now) out.new result }
 {
-    let text = page_text(file);
+    let mut text = Text::empty();
+    put_page(file, &mut text);
     let bytes = text.as_bytes();
     out[..bytes.len()].copy_from_slice(bytes);
     bytes.len()

@@ -2,7 +2,7 @@
 ghost use Rattle.std.specs.Prelude.{◌≡◌, ◌+◌, ◌≤◌, length};
 ghost use Rattle.reply.specs.Reply.{reply_number};
 ghost use Rattle.listing.specs.Listing.{line, numbers_of, head_line, job_lines, refusal_line};
-ghost use Rattle.listing.specs.Printed.{Put, text_with};
+ghost use Rattle.listing.specs.Printed.{Put, no_text, text_with};
 
 use crate::text::Text;
 use graph::Job;
@@ -43,15 +43,15 @@ pub fn put_lines(text: &mut Text, n: usize, jobs: &[Job; 128], plan: &[u32; 256]
     }
 }
 
-pub fn refusal_text(refusal: Refusal) -> Text
-    ensures { result ≡ text_with (refusal_line (reply_number refusal.reply) refusal.place) }
+// The line of a refusal, into an empty text.
+pub fn put_refusal(text: &mut Text, refusal: Refusal)
+    requires { text.old ≡ no_text }
+    ensures { text.new ≡ text_with (refusal_line (reply_number refusal.reply) refusal.place) }
 {
     let number = u32::from(refusal.reply);
-    let mut text = Text::empty();
     text.words(b"refused ");
     text.number(number as u64);
     text.words(b" at ");
     text.number(refusal.place as u64);
     text.words(b"\n");
-    text
 }

@@ -1,7 +1,8 @@
 -- Reads and writes on the struct of a channel are those on what it holds.
-use Rattle.std.specs.Prelude.{◌≡◌, ℕ, zero, suc, ◌+◌, ◌-◌, ◌%◌, ◌<◌, ◌≤◌, ◌≢◌, Some, None, List, [], ◌∷◌, ◌++◌, length, ◌==◌, slice_index, slice_index_or, slice_set}
+use Rattle.std.specs.Prelude.{◌≡◌, ℕ, zero, suc, ◌+◌, ◌-◌, ◌%◌, ◌<◌, ◌≤◌, cond, ◌≢◌, Some, None, List, [], ◌∷◌, ◌++◌, length, ◌==◌, slice_index, slice_index_or, slice_set}
 use Rattle.std.proofs.Math.Path.{refl, ap, ap₂}
 use Rattle.std.proofs.Common.{sym, ◌∙◌, ext_get_or}
+use Rattle.std.proofs.Math.Decide.{ℕ_discrete}
 use native.Mathlib.Omega.{arith}
 use Rattle.std.proofs.Math.ListN.{length-set}
 use Rattle.std.proofs.Math.Seq.{get_or-set_same, get_or-set_other}
@@ -132,3 +133,29 @@ module _ (c : Channel) where
       sound = record { places = s.places; head = s.head; most = s.most };
       contents = rw (ne_eqb kind 1 k, held_count, le-ltb c.length capacity l, full_holds);
     }
+
+-- ---- the values, place by place
+
+-- eight values, place by place, with a new one at a place
+abbrev pub placed : List ℕ → ℕ → ℕ → List ℕ
+placed values at value = table 8 (λ k. cond (at == k) value (slice_index values k))
+
+set_at : (values : List ℕ) (at value k : ℕ) → k < length values → cond (at == k) value (slice_index values k) ≡ slice_index (slice_set values at value) k
+set_at values at value k h = elim (ℕ_discrete at k) [
+  | yes e ↦ rw (eq-eqb at k e, e) (sym (get_or-set_same values k value 0 h))
+  | no d ↦ rw (ne_eqb at k d) (sym (get_or-set_other values at k value 0 (λ e. d (sym e))))
+]
+
+placed_set : (values : List ℕ) (at value : ℕ) → length values ≡ 8 → placed values at value ≡ slice_set values at value
+placed_set values at value e =
+    table_same 8 (λ k. cond (at == k) value (slice_index values k)) (λ k. slice_index (slice_set values at value) k) (λ k h. set_at values at value k (omega arith))
+    ∙ table_list (slice_set values at value) 8 (length-set values at value ∙ e)
+
+module _ (c : Channel) (s : Sound c) (kind capacity value : ℕ) {written : List ℕ} where
+  pub board_written : written ≡ placed c.values c.head value → kind ≡ 1
+      → PutInto c kind capacity value (record { values = written; head = c.head; length = 1; loss = c.loss })
+  board_written e k = rw (e, placed_set c.values c.head value s.places) (put_board c s kind capacity value k)
+
+  pub queue_written : written ≡ placed c.values ((c.head + c.length) % 8) value → kind ≢ 1 → c.length < capacity → capacity ≤ 8
+      → PutInto c kind capacity value (record { values = written; head = c.head; length = c.length + 1; loss = c.loss })
+  queue_written e k l m = rw (e, placed_set c.values ((c.head + c.length) % 8) value s.places) (put_queue c s kind capacity value k l m)

@@ -1,6 +1,7 @@
 -- Kind and capacity of each channel stand where the table of kinds has them.
-use Rattle.std.specs.Prelude.{◌≡◌, ℕ, zero, suc, ◌+◌, ◌*◌, List, [], ◌∷◌, length, slice_index, slice_index_or, refl}
-use Rattle.std.proofs.Common.{arith}
+use Rattle.std.specs.Prelude.{◌≡◌, ℕ, zero, suc, ◌+◌, ◌*◌, ◌/◌, ◌%◌, ◌<◌, List, [], ◌∷◌, length, slice_index, slice_index_or, refl}
+use Rattle.std.proofs.Common.{arith, sym, subst, ◌∙◌, ext_get_or}
+use Rattle.std.proofs.Math.Decide.{ℕ_discrete}
 use Rattle.network.specs.Net.{no_channel}
 use Rattle.network.specs.declared.Channel.{Channel}
 use Rattle.machine.specs.Acting.{kinds_in, KindsTold}
@@ -24,3 +25,17 @@ length_kinds (x ∷ l) = omega (arith, length_kinds l)
 
 pub kinds_told : (l : List Channel) → length l ≡ 16 → KindsTold l (kinds_in l)
 kinds_told l e = record { size = omega (arith, length_kinds l); kind = λ c h. kind_at l c; capacity = λ c h. capacity_at l c }
+
+-- and no other table is told
+pub kinds_only : (l : List Channel) → length l ≡ 16 → (kinds : List ℕ) → KindsTold l kinds → kinds ≡ kinds_in l
+kinds_only l e kinds told = ext_get_or 0 kinds (kinds_in l) (omega (arith, told.size, length_kinds l)) (λ i h. each i (omega (arith, told.size)))
+  where
+    each : (i : ℕ) → i < 32 → slice_index kinds i ≡ slice_index (kinds_in l) i
+    each i h = elim (ℕ_discrete (i % 2) 0) [
+      | yes even ↦
+          let is : 2 * (i / 2) ≡ i = omega arith in
+          subst (λ (x : ℕ). slice_index kinds x ≡ slice_index (kinds_in l) x) is (told.kind (i / 2) (omega arith) ∙ sym (kind_at l (i / 2)))
+      | no odd ↦
+          let is : 2 * (i / 2) + 1 ≡ i = omega arith in
+          subst (λ (x : ℕ). slice_index kinds x ≡ slice_index (kinds_in l) x) is (told.capacity (i / 2) (omega arith) ∙ sym (capacity_at l (i / 2)))
+    ]

@@ -35,3 +35,8 @@ part_ok (refused reply place) e = cc
 pub part_err : {A : Type 0} {e : Refusal} (r : Result (Part A)) → Err e ≡ part_told r → r ≡ refused e.reply e.place
 part_err (done p) is = cc
 part_err (refused reply place) is = cc
+
+-- of a write: the position after it
+pub next_is : {next : ℕ} (r : Result ℕ) → Ok next ≡ next_told r → r ≡ done next
+next_is (done m) e = let n = ok_same e in rw n
+next_is (refused reply place) e = cc

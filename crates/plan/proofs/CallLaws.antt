@@ -21,6 +21,8 @@ use Rattle.marks.specs.declared.Row.{Row}
 use Rattle.network.specs.ListLaws.{get_or_table, fill_at}
 use Rattle.graph.specs.Work.{Work, work_of, load_work, job_count_of, precedes}
 use Rattle.graph.proofs.WorkLaws.{goes_forward}
+use Rattle.graph.specs.Sequence.{no_job}
+use Rattle.graph.specs.Columns.{Column}
 use Rattle.graph.specs.Graph.{frame_file, rows_to}
 use Rattle.graph.specs.FrameOf.{FrameOf, work_in, work_is, count_is, job_is, jobs_is, few_jobs, file_accepted, file_refused}
 use Rattle.graph.specs.Promise.{jobs_are}
@@ -76,6 +78,10 @@ module _ {framed : Framed} (frame : FrameOf framed) where
 
   most : job_count_of (work_of frame.net) ≤ 128
   most = (jobs_are frame.net frame.valid).most
+
+  -- a number of each job
+  field : {column : List ℕ} (f : Job → ℕ) → Column no_job f framed.jobs column → (j : ℕ) → j < job_count_of (work_of frame.net) → get_or column j 0 ≡ f (get_or (work_of frame.net).jobs j no_job)
+  field f c j k = c.each j (omega (arith, most)) ∙ ap f (job_is frame j)
 
   row_there : (j : ℕ) → j < job_count_of (work_of frame.net) → row_at framed j ≡ row_of (λ i. precedes (work_of frame.net) i j)
   unfolding rows_to

@@ -1,7 +1,7 @@
 -- The loops of `checking::judge`: the jobs so far have no fault; and a job does not overlap the lower jobs so far.
-use Rattle.std.specs.Prelude.{ℕ, suc, ◌+◌, ◌≤◌, ◌<◌, ◌≡◌, Bool, true, false, ◌||◌, List, Option, Some, None, Ok, Err}
+use Rattle.std.specs.Prelude.{ℕ, suc, ◌+◌, ◌≤◌, ◌<◌, ◌≡◌, Bool, true, false, ◌&&◌, ◌||◌, eqb, ltb, List, Option, Some, None, Ok, Err}
 use Rattle.std.specs.declared.result.Result as Std
-use Rattle.std.proofs.Common.{sym, ap, ap₂, ◌∙◌, arith, add-one, get_or}
+use Rattle.std.proofs.Common.{sym, refl, ap, ap₂, ◌∙◌, arith, add-one, get_or, le-ltb}
 use Rattle.reply.specs.Tools.{any}
 use Rattle.reply.specs.AllAny.{any_zero, any_suc, any_make}
 use Rattle.reply.specs.Result.{done, refused, in_order}
@@ -54,6 +54,16 @@ verdict (Some (place, reply)) = Err (record { reply = reply; place = place })
 -- and it is that of the definition
 abbrev pub Found : List Job → List Row → ℕ → ℕ → List ℕ → Option (ℕ × Reply) → Type 0
 Found jobs before n m plan fault = Judged jobs before n m plan (verdict fault)
+
+neither : (a b : Bool) → (a && (b && false)) ≡ false
+neither true true = refl
+neither true false = refl
+neither false b = refl
+
+no_more : (a b : Bool) → (a || (b && false)) ≡ a
+no_more true b = refl
+no_more false true = refl
+no_more false false = refl
 
 module _ {jobs : List Job} {before : List Row} {n m : ℕ} {plan : List ℕ} where
   pub judged_by : {fault found : Option (ℕ × Reply)} → fault ≡ found → Found jobs before n m plan fault → Judged jobs before n m plan (verdict found)
@@ -136,6 +146,19 @@ module _ {jobs : List Job} {before : List Row} {n m : ℕ} {plan : List ℕ} whe
           apart = λ w t. any_suc i (λ k. overlap w plan k j) ∙ ap₂ (λ a b. a || b) (held.apart w t) (sym (overlap_here w t) ∙ apart);
           soon_is = soon_here;
         })
+
+    -- against one that has ended when job j starts
+    module _ (below : i < j) {lower stay : Stay} (lower_is : lower ≡ stay_in jobs plan i) (stay_is : stay ≡ stay_in jobs plan j) (ended : lower.end ≤ stay.start) where
+      no_overlap : overlapping lower stay ≡ false
+      unfolding overlapping
+      no_overlap = rw (le-ltb stay.start lower.end ended) (neither (eqb lower.processor stay.processor) (ltb lower.start stay.end))
+
+      as_soon : (p : Bool) → soon ≡ soon_or soon p stay.start lower.end
+      unfolding soon_or
+      as_soon p = rw (le-ltb stay.start lower.end ended) (sym (no_more soon p))
+
+      pub hold_past : Held jobs before n m plan j soon (i + 1)
+      hold_past = hold_more below lower_is stay_is refl no_overlap refl (as_soon (marked (get_or before j no_marks) i))
 
     -- against all
     module _ (all : j ≤ i) where

@@ -83,6 +83,10 @@ pub fn judge(
             let mut soon = false;
             for i in 0..j {
                 let lower = stay_of(plan, i, jobs[i].budget);
+                // Most lower jobs have ended by then, and of those neither holds.
+                if lower.end <= stay.start {
+                    continue;
+                }
                 if overlaps(lower, stay) {
                     break 'jobs Some((j, Reply::Overlaps));
                 }

@@ -5,7 +5,7 @@ ghost use Rattle.plan.specs.Standing.{nothing_by, stand_by};
 use marks::Row;
 
 // Which jobs stand, the end of each, the last end on each processor, and two words for each job.
-#[derive(Drop)]
+#[derive(Clone, Copy, Debug, PartialEq, Eq)]
 pub struct Standing {
     pub jobs: Row,
     pub ends: [u32; 128],

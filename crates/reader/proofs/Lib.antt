@@ -5,3 +5,4 @@ mod PairRows
 mod ActionLoop
 mod ProgramLoop
 mod Whole
+mod InTurn

@@ -1,17 +1,25 @@
 // The line of a graph, or of a job with those that precede it.
+use crate::print;
 use crate::print::Outcome;
 use graph::{Job, PrecedenceGraph};
 use marks::Row;
+use std::convert::AsSlice;
 use std::fmt::Display;
 use std::{fmt, io};
 
-pub fn show(rt: &impl Print, label: &str, file: &[u8]) -> io::Result<()> {
+pub fn show(rt: &impl Print, label: impl AsSlice<u8> + Drop, file: &[u8]) -> io::Result<()> {
     let graph = graph::graph(file);
-    println!(rt; "{label}: {}", Outcome(graph.answer, Shown(&graph)))
+    print::head(rt, label)?;
+    println!(rt; "{}", Outcome(graph.answer, Shown(&graph)))
 }
 
 // Job j of a file's frame, and the jobs that precede it.
-pub fn show_job(rt: &impl Print, label: &str, file: &[u8], j: usize) -> io::Result<()> {
+pub fn show_job(
+    rt: &impl Print,
+    label: impl AsSlice<u8> + Drop,
+    file: &[u8],
+    j: usize,
+) -> io::Result<()> {
     let framed = graph::frame(file);
     let Job {
         process,
@@ -23,7 +31,9 @@ pub fn show_job(rt: &impl Print, label: &str, file: &[u8], j: usize) -> io::Resu
         "process {process}, release {release}, deadline {deadline}, budget {budget}, predecessors{}",
         Marked(framed.before[j % 128])
     );
-    println!(rt; "job {j} of {label}: {}", Outcome(framed.answer, job))
+    print!(rt; "job {j} of ")?;
+    print::head(rt, label)?;
+    println!(rt; "{}", Outcome(framed.answer, job))
 }
 
 // The counts of a graph, and of a small one the jobs' processes and the edges too.

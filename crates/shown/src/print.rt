@@ -1,7 +1,14 @@
 // What several lines say: a reply and its place, what a call gives or why it refuses, numbers and bytes.
 use reply::{Answer, Refusal};
-use std::fmt;
+use std::convert::AsSlice;
 use std::fmt::Display;
+use std::{fmt, io};
+
+// The head of a line: its label, text or any other bytes, and a colon.
+pub fn head(rt: &impl Print, label: impl AsSlice<u8> + Drop) -> io::Result<()> {
+    rt.write_all(label.as_slice())?;
+    print!(rt; ": ")
+}
 
 // What a call answers, refused or not.
 #[derive(Drop)]

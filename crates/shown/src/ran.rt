@@ -1,13 +1,15 @@
 // The line of a run: reply and place, output words, what each channel holds, and the variables of each process.
+use crate::print;
 use crate::print::{Numbers, Output, Told};
 use machine::Held;
 use reply::Answer;
+use std::convert::AsSlice;
 use std::fmt::Display;
 use std::{fmt, io};
 
 pub fn show(
     rt: &impl Print,
-    label: &str,
+    label: impl AsSlice<u8> + Drop,
     file: &[u8],
     frames: u32,
     input: &[u32],
@@ -20,7 +22,8 @@ pub fn show(
         channels: &ran.channels,
         variables: &ran.variables,
     };
-    println!(rt; "{label}: {}{}{state}", Told(ran.answer), Output(output))
+    print::head(rt, label)?;
+    println!(rt; "{}{}{state}", Told(ran.answer), Output(output))
 }
 
 // What a run of a file leaves: the channels and the variables of its network, or that all is zero.

@@ -1,10 +1,12 @@
 // The line of a timed run.
+use crate::print;
 use crate::print::{Output, Told};
+use std::convert::AsSlice;
 use std::io;
 
 pub fn show(
     rt: &impl Print,
-    label: &str,
+    label: impl AsSlice<u8> + Drop,
     file: &[u8],
     processors: u32,
     plan: &[u32],
@@ -12,5 +14,6 @@ pub fn show(
     out: &mut [u32],
 ) -> io::Result<()> {
     let answer = timed::run(file, processors, plan, durations, out);
-    println!(rt; "{label}: {}{}", Told(answer), Output(out))
+    print::head(rt, label)?;
+    println!(rt; "{}{}", Told(answer), Output(out))
 }

@@ -1,11 +1,13 @@
 // The line of a turn run.
+use crate::print;
 use crate::print::{Output, Told};
 use crate::ran::State;
+use std::convert::AsSlice;
 use std::io;
 
 pub fn show(
     rt: &impl Print,
-    label: &str,
+    label: impl AsSlice<u8> + Drop,
     file: &[u8],
     processors: u32,
     frames: u32,
@@ -15,8 +17,9 @@ pub fn show(
     output: &mut [u32],
 ) -> io::Result<()> {
     let ran = turns::run(file, processors, frames, plan, input, list, output);
+    print::head(rt, label)?;
     print!(rt;
-        "{label}: {}, frames {}, jobs {}",
+        "{}, frames {}, jobs {}",
         Told(ran.answer),
         ran.frames,
         ran.jobs

@@ -1,5 +1,5 @@
 -- The cases of the call: the number of processors, the file, the lent words, the plan and the durations; and that the tables of a frame are those of its work.
-use Rattle.std.specs.Prelude.{ℕ, ◌*◌, ◌≤◌, ◌<◌, ◌≡◌, refl, List, leb, length, take, Ok, Err}
+use Rattle.std.specs.Prelude.{ℕ, ◌*◌, ◌≤◌, ◌<◌, ◌≡◌, refl, List, leb, length, get_or, take, Ok, Err}
 use Rattle.std.proofs.Common.{sym, ap, subst, ◌∙◌, arith, length-take}
 use borrow.Author.Tests.{le-leb, lt-leb}
 use Rattle.std.proofs.lemmas.List.Edits.{sets}
@@ -11,6 +11,9 @@ use Rattle.reply.specs.Call.{ok_processors, room_of, ok_room}
 use Rattle.reply.specs.Told.{judged, refusal_in}
 use Rattle.reply.specs.declared.Refusal.{Refusal}
 use Rattle.reply.specs.declared.Reply.TheVariants.{OutOfRange, ShortBuffer, LongDuration}
+use Rattle.network.specs.Lists.{table}
+use Rattle.network.specs.ListLaws.{length_table, get_or_table}
+use Rattle.graph.specs.Columns.{Column}
 use Rattle.graph.specs.Work.{Work, load_work, job_of, job_count_of, cost}
 use Rattle.graph.specs.Graph.{frame_file}
 use Rattle.graph.specs.FrameOf.{FrameOf, work_in, work_is, job_is, jobs_is, file_accepted, file_refused}
@@ -26,6 +29,14 @@ use Rattle.timed.specs.PlannedOrder.{Ordered}
 use Rattle.timed.proofs.TimedLaws.{computed, one_solution}
 use Rattle.timed.specs.TimedTold.{ok_within, lent, Timable, AllTimed, Admitted}
 use Rattle.timed.proofs.Promise.{durations_short, honest_timed, ordered_by}
+
+-- a column of whatever table
+any_column : {A : Type 0} → A → (A → ℕ) → List A → List ℕ
+any_column none field l = table 128 (λ j. field (get_or l j none))
+
+any_column_lem : {A : Type 0} (none : A) (field : A → ℕ) (l : List A) → Column none field l (any_column none field l)
+unfolding any_column
+any_column_lem none field l = record { size = length_table 128 _; each = λ j h. get_or_table 128 _ j 0 h }
 
 module _ {framed : Framed} (frame : FrameOf framed) where
   -- ---- plan and durations

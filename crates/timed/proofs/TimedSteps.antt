@@ -1,10 +1,10 @@
 -- One step of the timed run on its tables: the job that is planned next gets its start and its end.
-use Rattle.std.specs.Prelude.{ℕ, suc, ◌+◌, ◌*◌, ◌≤◌, ◌<◌, max, ◌≡◌, refl, ◌≢◌, true, false, cond, not, List, get_or, set, take, Some}
+use Rattle.std.specs.Prelude.{ℕ, suc, ◌+◌, ◌*◌, ◌≤◌, ◌<◌, max, ◌≡◌, refl, ◌≢◌, true, false, cond, not, List, get_or, set, take, Some, eqb}
 use Rattle.std.proofs.Common.{sym, subst, ◌∙◌, arith, length-set, get_or-set_same, get_or-set_other, length-take-le, get_or-take}
 use Rattle.std.proofs.Math.Path.{ap, ap₂}
 use Rattle.std.proofs.Math.Decide.{ℕ_discrete, dec_lt}
 use Rattle.std.proofs.lemmas.List.{length-replicate}
-use borrow.Author.Tests.{not-true}
+use borrow.Author.Tests.{not-true, eqb-true, ne_eqb}
 use Rattle.reply.specs.Tools.{all}
 use Rattle.reply.specs.Tests.{split, clash}
 use Rattle.reply.specs.AllAny.{all_true, all_false}
@@ -34,6 +34,23 @@ small_starts T = record {
   there = T.plan_there;
   small = λ j h. omega (arith, T.ordered.feasible.in_time j (omega (arith, T.count_is)), T.small j h);
 }
+
+-- ---- keys
+
+-- a key that is the greatest word, and one that is not
+timed_key : (keys : List ℕ) (j : ℕ) → eqb (get_or keys j 0) 4294967295 ≡ true → get_or keys j 0 ≡ 4294967295
+timed_key keys j e = eqb-true _ _ e
+
+key_untimed : (keys : List ℕ) (j : ℕ) → get_or keys j 0 < 4294967295 → eqb (get_or keys j 0) 4294967295 ≡ false
+key_untimed keys j l = ne_eqb _ _ (λ (e : get_or keys j 0 ≡ 4294967295). omega arith)
+
+-- what the keys tell of a job
+module _ {timed : Row} {plan keys : List ℕ} {n : ℕ} (K : KeysTell timed plan n keys) where
+  timed_key_told : (j : ℕ) → j < n → marked timed j ≡ true → get_or keys j 0 ≡ 4294967295
+  timed_key_told j h e = K.timed_one j h e
+
+  key_untimed_told : (j : ℕ) → j < n → get_or keys j 0 < 4294967295 → marked timed j ≡ false
+  key_untimed_told j h l = split (marked timed j) (λ e. absurd (omega (arith, K.timed_one j h e))) (λ e. e)
 
 -- ---- one step
 
@@ -65,6 +82,9 @@ module _ {w : Work} {m : ℕ} {t : Lent} {k : ℕ} {timing : Standing} (R : Reac
   some_untimed = split (all n (is_timed timing))
       (λ e. absurd (omega (arith, R.number, count_all n (is_timed timing) (all_true n (is_timed timing) e))))
       (λ e. all_false n (is_timed timing) e)
+
+  start_early : (j : ℕ) → j < jobs_in t → start_at t.plan j ≤ 2000
+  start_early = (small_starts R.timable).small
 
   -- one is chosen
   pub some_next : {P : Type 0} → next_by timing.jobs t.plan (jobs_in t) ≡ 0 → P
@@ -155,6 +175,13 @@ module _ {w : Work} {m : ℕ} {t : Lent} {k : ℕ} {timing : Standing} (R : Reac
 
     timed_own : is_timed after j ≡ true
     timed_own = with_same timing.jobs j (omega (arith, N.low, R.timable.few))
+
+    -- and the keys with it timed, whatever they are
+    abbrev keys' : List ℕ → List ℕ
+    keys' keys = set keys j 4294967295
+
+    key_other : (keys : List ℕ) (i : ℕ) → i ≢ j → get_or (keys' keys) i 0 ≡ get_or keys i 0
+    key_other keys i d = get_or-set_other keys j i 4294967295 0 d
 
     timed_other : (i : ℕ) → i ≢ j → is_timed after i ≡ is_timed timing i
     timed_other i d = with_other timing.jobs j i d

@@ -29,7 +29,7 @@ use Rattle.machine.specs.SampleLaws.{honest_samples}
 use Rattle.machine.specs.Words.{contents_in}
 use Rattle.machine.specs.Acting.{kinds_in}
 use Rattle.machine.specs.StartLaws.{no_words, start_sound, start_state_lem, start_room}
-use Rattle.zero_delay.specs.CallLaws.{tables, ready}
+use Rattle.zero_delay.specs.CallLaws.{kinds_there, tables, ready}
 use Rattle.zero_delay.specs.Lent.{TablesOf, Ready}
 use Rattle.plan.specs.Plan.{start_at, end_at, checked_by}
 use Rattle.plan.specs.Feasible.{Feasible}
@@ -110,10 +110,10 @@ firsts_are plan jobs = record { each = each; four = refl }
 
 module _ {framed : Framed} (frame : FrameOf framed) (plan : List ℕ) {planned : Planned} (of : PlannedOf framed plan planned) where
   planned_tables : TablesOf (work_of frame.net) planned.tables.program planned.tables.counts (kinds_in planned.tables.channels) planned.processes planned.jobs
-  planned_tables = rw (of.program, of.counts, of.channels, of.jobs) (tables frame (λ j h. of.processes.each j (omega (arith, few_jobs frame))))
+  planned_tables = rw (of.program, of.counts, of.channels, of.jobs) (tables frame (kinds_there frame) (λ j h. of.processes.each j (omega (arith, few_jobs frame))))
 
   planned_ready : Ready planned.tables.program planned.tables.counts (kinds_in planned.tables.channels) planned.processes planned.jobs
-  planned_ready = rw (of.program, of.counts, of.channels, of.jobs) (ready frame (λ j h. of.processes.each j (omega (arith, few_jobs frame))))
+  planned_ready = rw (of.program, of.counts, of.channels, of.jobs) (ready frame (kinds_there frame) (λ j h. of.processes.each j (omega (arith, few_jobs frame))))
 
 module _ {framed : Framed} (frame : FrameOf framed) (m : ℕ) (plan : List ℕ) (good : checked_by (work_in framed) m plan ≡ done tt) where
   abbrev w : Work

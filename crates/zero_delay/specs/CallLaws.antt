@@ -57,15 +57,16 @@ module _ {framed : Framed} (frame : FrameOf framed) where
   has_program : (j : ℕ) → j < framed.job_count → process_of (work_of frame.net) j < length frame.net.programs
   has_program j h = omega (arith, frame.valid.programs, ((jobs_are frame.net frame.valid).each j (omega (arith, count_is frame))).process)
 
-  -- kind and capacity of each channel
-  abbrev kinds : List ℕ
-  kinds = kinds_in framed.network.channels
-
-  kinded_net : KindsTold (fill frame.net).channels kinds
+  -- kind and capacity of each channel are told
+  pub kinds_there : KindsTold framed.network.channels (kinds_in framed.network.channels)
   unfolding fill
-  kinded_net = rw (network_is frame) (kinds_told (fill_to 16 no_channel frame.net.channels) (length_fill 16 no_channel frame.net.channels frame.valid.channel_count))
+  kinds_there = rw (network_is frame) (kinds_told (fill_to 16 no_channel frame.net.channels) (length_fill 16 no_channel frame.net.channels frame.valid.channel_count))
 
-  module _ {processes : List ℕ} (told : (j : ℕ) → j < framed.job_count → get_or processes j 0 ≡ (get_or framed.jobs j no_job).process) where
+  kinded_net : {kinds : List ℕ} → KindsTold framed.network.channels kinds → KindsTold (fill frame.net).channels kinds
+  kinded_net kinded = rw (network_is frame) at kinded
+
+  module _ {kinds processes : List ℕ} (kinded : KindsTold framed.network.channels kinds)
+      (told : (j : ℕ) → j < framed.job_count → get_or processes j 0 ≡ (get_or framed.jobs j no_job).process) where
     pub tables : TablesOf (work_of frame.net) framed.network.actions framed.network.action_counts kinds processes framed.job_count
     tables = record {
       count = sym (count_is frame);
@@ -73,7 +74,7 @@ module _ {framed : Framed} (frame : FrameOf framed) where
       program_is = λ j h.
           let p : ℕ = process_of (work_of frame.net) j in
           rw (work_net frame.net, network_is frame, counts_are frame.net frame.valid p (has_program j h)) (programs_are frame.net frame.valid p (has_program j h));
-      kinds_are = rw (work_net frame.net) (kinds_are frame.net frame.valid kinds kinded_net);
+      kinds_are = rw (work_net frame.net) (kinds_are frame.net frame.valid kinds (kinded_net kinded));
     }
 
     pub ready : Ready framed.network.actions framed.network.action_counts kinds processes framed.job_count
@@ -83,7 +84,7 @@ module _ {framed : Framed} (frame : FrameOf framed) where
       runnable = λ j h.
           let p : ℕ = process_of (work_of frame.net) j in
           rw (network_is frame, counts_are frame.net frame.valid p (has_program j h)) (runnable_are frame.net frame.valid p (has_program j h));
-      capacities = capacities_are frame.net frame.valid kinds kinded_net;
+      capacities = capacities_are frame.net frame.valid kinds (kinded_net kinded);
       short = rw (work_net frame.net) (valid_short frame.net frame.valid);
       few = few_jobs frame;
     }
@@ -101,8 +102,12 @@ module _ {framed : Framed} (frame : FrameOf framed) where
       state_is : state_by variables' words' ≡ ran.state
       state_is = did.state (work_of frame.net) tables ∙ ap (λ (r : Sofar). r.state) ran_is
 
-      pub result_is : ◌≡◌ {A = Ran} (record { answer = record { reply = Done; place = 0 }; variables = variables'; channels = map held_of (contents_in words') }) (ran_after ran)
-      result_is = rw (ap (λ (s : State). s.variables) state_is, ap (λ (s : State). s.channels) state_is) refl
+      pub result_after : ◌≡◌ {A = Ran} (record { answer = record { reply = Done; place = 0 }; variables = variables'; channels = map held_of (contents_in words') }) (ran_after ran)
+      result_after = rw (ap (λ (s : State). s.variables) state_is, ap (λ (s : State). s.channels) state_is) refl
+
+      pub result_is : ◌≡◌ {A = Ran} (record { answer = record { reply = Done; place = 0 }; variables = variables'; channels = map held_of (contents_in words') }) (ran_of (done ran))
+      unfolding ran_of
+      result_is = result_after
 
       pub filled_is : output' ≡ filled_by (done ran) output
       unfolding filled_by

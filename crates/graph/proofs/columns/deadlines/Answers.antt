@@ -1,10 +1,13 @@
 -- `columns::deadlines` meets its contract.
-use Rattle.std.proofs.Common.{rules}
-use Rattle.graph.specs.Sequence.{no_job}
+use Rattle.std.proofs.Common.{arith, refl}
+use Rattle.graph.proofs.ColumnLoop.{start, turn, finish}
 use Rattle.graph.proofs.columns.deadlines.Goals as goal
 
+pub loop-j-init : goal.loop-j-init
+loop-j-init c = start
+
+pub loop-j-preserved : goal.loop-j-preserved
+loop-j-preserved c = turn c.loop-j.invariant (omega (arith, c.loop-j-test.true)) refl
+
 pub returns : goal.returns
-returns c = record {
-  size = c.map.ensures.items.long;
-  each = λ j h. let (p, q, called) = c.map.ensures.items.at j no_job 0 h in search rules;
-}
+returns c = finish c.loop-j.invariant (omega (arith, c.loop-j-test.false))

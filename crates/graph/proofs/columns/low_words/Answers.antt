@@ -1,10 +1,13 @@
 -- `columns::low_words` meets its contract.
-use Rattle.std.proofs.Common.{rules}
-use Rattle.marks.specs.Row.{no_marks}
+use Rattle.std.proofs.Common.{arith, refl}
+use Rattle.graph.proofs.ColumnLoop.{start, turn, finish}
 use Rattle.graph.proofs.columns.low_words.Goals as goal
 
+pub loop-j-init : goal.loop-j-init
+loop-j-init c = start
+
+pub loop-j-preserved : goal.loop-j-preserved
+loop-j-preserved c = turn c.loop-j.invariant (omega (arith, c.loop-j-test.true)) refl
+
 pub returns : goal.returns
-returns c = record {
-  size = c.map.ensures.items.long;
-  each = λ j h. let (p, q, called) = c.map.ensures.items.at j no_marks 0 h in search rules;
-}
+returns c = finish c.loop-j.invariant (omega (arith, c.loop-j-test.false))

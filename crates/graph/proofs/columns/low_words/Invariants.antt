@@ -1,0 +1,8 @@
+-- `columns::low_words` meets its contract: the column so far is told.
+use Rattle.marks.specs.Row.{no_marks}
+use Rattle.marks.specs.declared.Row.{Row}
+use Rattle.graph.proofs.ColumnLoop.{Telling}
+use Rattle.graph.proofs.columns.low_words.Given as goal
+
+abbrev pub invariant-loop-j : goal.invariant-loop-j
+invariant-loop-j l = Telling no_marks (λ (x : Row). x.low) l.fn.rows l.column l.j
