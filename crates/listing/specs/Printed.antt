@@ -24,9 +24,9 @@ abbrev pub text_with : List ℕ → Text
 text_with bytes = record { bytes = sets (replicate 4096 0) 0 bytes; length = length bytes }
 
 -- what a step gives that puts a text into a lent one: that text, or why there is none
-abbrev pub with_text : Std.Result (Unit {0}) Refusal → Text → Std.Result Text Refusal
-with_text (Ok put) text = Ok text
-with_text (Err refusal) text = Err refusal
+abbrev pub text_or_refusal : Std.Result (Unit {0}) Refusal → Text → Std.Result Text Refusal
+text_or_refusal (Ok put) text = Ok text
+text_or_refusal (Err refusal) text = Err refusal
 
 -- the listing of what `graph` returns, with a plan
 unfoldable pub text_by : PrecedenceGraph → List ℕ → List ℕ
